@@ -1,0 +1,7 @@
+use mathlib.Core.Path.{_≡_}
+use mathlib.Core.Logic.{inl}
+use Rattle.std.proofs.shelf.Results.{made-weaker}
+use Rattle.reports.proofs.guilds.report.Needs as need
+
+pub returns-in-Ok : need.returns-in-Ok
+returns-in-Ok c = made-weaker (c .table .result) _ _ (λ out is. inl (c .read-statement .last .statement, c .in-Ok .ensures tt, is)) (c .table .ensures)

@@ -1,0 +1,2 @@
+pub mod guilds;
+pub mod written;

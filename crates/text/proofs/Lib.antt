@@ -1,0 +1,5 @@
+pub mod Cutting
+pub mod Records
+pub mod Keeping
+pub mod Finishing
+pub mod Walking

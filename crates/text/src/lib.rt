@@ -1,0 +1,7 @@
+mod draft;
+mod fields;
+mod reader;
+pub mod reading;
+mod record;
+#[cfg(test)]
+mod tests;

@@ -1,0 +1,10 @@
+pub mod Refusals
+pub mod Trust
+pub mod Keeping
+pub mod Sorting
+pub mod Serving
+pub mod Families
+pub mod Fitting
+pub mod ByLists
+pub mod Statements
+pub mod Witness

@@ -1,0 +1,84 @@
+ghost use mathlib.Core.Path.{_≡_};
+ghost use Rattle.sets.specs.Lists.{any-of, all-of};
+ghost use Rattle.sets.specs.Sets.{inside, meets};
+ghost use Rattle.trust.specs.ByLists.{part?, misses?, both-part?, keeps-with?, pair?};
+use sets::NodeSet;
+
+// Some set of the list is all inside s.
+pub fn some_inside(masks: &[u16], s: NodeSet) -> bool
+    ensures { λ r. ⌜ r ≡ any-of (now (masks .entry)) (λ q. inside q (s .0)) ⌝ }
+{
+    for q in masks {
+        if NodeSet(*q).is_inside(s) {
+            return true;
+        }
+    }
+    false
+}
+
+// s is part of some set of the list.
+pub fn is_part(masks: &[u16], s: NodeSet) -> bool
+    ensures { λ r. ⌜ r ≡ part? (now (masks .entry)) (s .0) ⌝ }
+{
+    for f in masks {
+        if s.is_inside(NodeSet(*f)) {
+            return true;
+        }
+    }
+    false
+}
+
+// Every set of the list has a node in s.
+pub fn all_meet(masks: &[u16], s: NodeSet) -> bool
+    ensures { λ r. ⌜ r ≡ all-of (now (masks .entry)) (λ q. meets q (s .0)) ⌝ }
+{
+    for q in masks {
+        if !NodeSet(*q).meets(s) {
+            return false;
+        }
+    }
+    true
+}
+
+// Each fail-prone set misses a quorum.
+pub fn is_available(fails: &[u16], quorums: &[u16]) -> bool
+    ensures { λ r. ⌜ r ≡ misses? (now (fails .entry)) (now (quorums .entry)) ⌝ }
+{
+    for f in fails {
+        if all_meet(quorums, NodeSet(*f)) {
+            return false;
+        }
+    }
+    true
+}
+
+// s is part of a fail-prone set of both.
+fn both_tolerate(ours: &[u16], theirs: &[u16], s: NodeSet) -> bool
+    ensures { λ r. ⌜ r ≡ both-part? (now (ours .entry)) (now (theirs .entry)) (s .0) ⌝ }
+{
+    is_part(ours, s) && is_part(theirs, s)
+}
+
+// No quorum of the other node meets q in a set that both tolerate.
+fn keeps_with(ours: &[u16], theirs: &[u16], others: &[u16], q: NodeSet) -> bool
+    ensures { λ r. ⌜ r ≡ keeps-with? (now (ours .entry)) (now (theirs .entry)) (now (others .entry)) (q .0) ⌝ }
+{
+    for r in others {
+        if both_tolerate(ours, theirs, q.common(NodeSet(*r))) {
+            return false;
+        }
+    }
+    true
+}
+
+// No two quorums of the pair meet in a set that both tolerate.
+pub fn is_consistent(ours: &[u16], theirs: &[u16], quorums: &[u16], others: &[u16]) -> bool
+    ensures { λ r. ⌜ r ≡ pair? (now (ours .entry)) (now (theirs .entry)) (now (quorums .entry)) (now (others .entry)) ⌝ }
+{
+    for q in quorums {
+        if !keeps_with(ours, theirs, others, NodeSet(*q)) {
+            return false;
+        }
+    }
+    true
+}
