@@ -2,16 +2,13 @@
 use mathlib.Core.Path.{_≡_}
 use mathlib.Core.Bool.{cond}
 use mathlib.Core.List.{List, [], _∷_, _++_}
-use mathlib.Core.Logic.{_⊎_}
 use Prim.Native.Nat.{ℕ, zero, suc, _^_}
 use lib.Chars.{codes}
-use Rattle.trust.specs.declared.refusal.Refusal.{Refusal}
-use Rattle.trust.specs.declared.statement.Statement.{Statement}
 use Rattle.trust.specs.Refusals.{refusal-number}
 use Rattle.trust.specs.Statements.{meant}
 use Rattle.trust.specs.Trust.{Trust, sound}
 use Rattle.trust.specs.Sorting.{wise-mask, naive-mask, max-guild}
-use Rattle.text.specs.Outcomes.{Accepts, Refuses}
+use Rattle.text.specs.Outcomes.{By-text}
 use Rattle.reports.specs.Written.{row-bytes, refused-bytes}
 
 -- the nodes sorted for a faulty set
@@ -32,6 +29,4 @@ table-of t = cond (sound t) (rows-to t (t .size)) (refused-bytes 9 0)
 
 -- the table of the statement that the text gives, or the refusal of its first bad line
 abbrev pub Reports : List ℕ → List ℕ → Type 0
-Reports text out =
-    ((s : Statement) × Accepts text s × (out ≡ table-of (meant s)))
-    ⊎ ((e : Refusal) × (line : ℕ) × (at : ℕ) × (part : List ℕ) × Refuses text e line at part × (out ≡ refused-bytes (refusal-number e) line))
+Reports text out = By-text text (λ s. out ≡ table-of (meant s)) (λ e line. out ≡ refused-bytes (refusal-number e) line)

@@ -1,17 +1,17 @@
 -- How many members a set has. Assumes nothing.
 use mathlib.Core.Path.{_≡_, refl, sym, ap, ap₂, _∙_}
-use mathlib.Core.Bool.{true}
+use mathlib.Core.Bool.{Bool, true, false, cond}
 use mathlib.Core.Logic.{⊎-elim}
 use Prim.Native.Nat.{ℕ, zero, suc, _+_, _*_, _/_, _%_, _^_, _<_, _≤_, min, max}
 use native.Mathlib.Nat.{pow-suc}
 use native.Mathlib.Omega.{arith}
 use lib.Arith.{bin-ind}
 use lib.Bits.{bitAnd, bitOr, and-step, or-step, and-zero-l, or-zero-l}
-use lib.Count.{ones, ones-step}
+use lib.Count.{ones, onesIn, ones-step, ones-cat}
 use Rattle.std.proofs.shelf.Bits.{pow-pos}
 use Rattle.std.proofs.shelf.Tests.{cases-eq, eqb-true, eq-eqb}
-use Rattle.sets.specs.Sets.{inside, rest}
-use Rattle.sets.proofs.Sets.{inside-self}
+use Rattle.sets.specs.Sets.{has, inside, nodes-with, how-many, rest}
+use Rattle.sets.proofs.Sets.{same-members, nodes-with-lt, has-nodes-with, inside-self}
 use Rattle.sets.proofs.Rests.{rest-minus}
 
 ones-cons : (h d : ℕ) → d < 2 → ones (h * 2 + d) ≡ d + ones h
@@ -23,6 +23,24 @@ ones-cons h d lt =
 pub ones-none : ones 0 ≡ 0
 unfolding ones
 ones-none = refl
+
+-- the bits are the members
+bit-count : (b : Bool) → ones (cond b 1 0) ≡ cond b 1 0
+unfolding ones onesIn
+bit-count true = refl
+bit-count false = refl
+
+count-with : (n : ℕ) (p : ℕ → Bool) → ones (nodes-with n p) ≡ how-many n p
+unfolding nodes-with how-many
+count-with zero p = ones-none
+count-with (suc n) p =
+    let d : ℕ = cond (p (suc n)) 1 0 in
+    let e : nodes-with n p + d * 2 ^ n ≡ d * 2 ^ n + nodes-with n p = omega arith in
+    omega (arith, ap ones e, ones-cat n d (nodes-with n p) (nodes-with-lt n p), bit-count (p (suc n)), count-with n p)
+
+pub ones-members : (n s : ℕ) → s < 2 ^ n → ones s ≡ how-many n (has s)
+ones-members n s lt =
+    ap ones (same-members n s (nodes-with n (has s)) lt (nodes-with-lt n (has s)) (λ k l. sym (has-nodes-with n (has s) k l))) ∙ count-with n (has s)
 
 -- the counts of union and common part
 pub ones-or-and : (a b : ℕ) → ones (bitOr a b) + ones (bitAnd a b) ≡ ones a + ones b

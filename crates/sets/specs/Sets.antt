@@ -47,6 +47,11 @@ unfoldable pub nodes-with : ℕ → (ℕ → Bool) → ℕ
 nodes-with zero p = 0
 nodes-with (suc n) p = nodes-with n p + cond (p (suc n)) 1 0 * 2 ^ n
 
+-- how many of the nodes 1 to n pass
+unfoldable pub how-many : ℕ → (ℕ → Bool) → ℕ
+how-many zero p = 0
+how-many (suc n) p = how-many n p + cond (p (suc n)) 1 0
+
 -- the nodes 1 to n outside a
 abbrev pub rest : ℕ → ℕ → ℕ
 rest n a = nodes-with n (λ k. not (has a k))

@@ -2,9 +2,10 @@ ghost use mathlib.Core.Path.{_≡_};
 ghost use mathlib.Core.Bool.{true, _&&_, _||_, not};
 ghost use Prim.Native.Nat.{ℕ, _≤_, min};
 ghost use lib.Bits.{bitAnd, bitOr};
+ghost use lib.Count.{ones};
 ghost use lib.Dec.{eqb};
 ghost use Rattle.std.specs.Orderings.{Decides};
-ghost use Rattle.sets.specs.Sets.{node?, set?, has, inside, meets, with-node, rest};
+ghost use Rattle.sets.specs.Sets.{node?, set?, has, inside, meets, with-node, how-many, rest};
 
 // A node by its number. Nodes are 1 to 16; any number may be asked about.
 #[derive(Clone, Copy)]
@@ -23,6 +24,14 @@ impl NodeSet {
             return false;
         }
         self.0 & (1 << (node.0 - 1)) != 0
+    }
+
+    // How many nodes the set has.
+    pub fn count(self) -> u32
+        ensures value { λ r. ⌜ r ≡ ones (self .0) ⌝ }
+        ensures members { λ r. ⌜ r ≡ how-many 16 (has (self .0)) ⌝ }
+    {
+        self.0.count_ones()
     }
 
     // Every node of the set is in the other.

@@ -2,6 +2,7 @@
 use mathlib.Core.Path.{_≡_}
 use mathlib.Core.Bool.{Bool, true, false, cond}
 use mathlib.Core.List.{List, [], _∷_, map}
+use mathlib.Core.Logic.{_⊎_}
 use Prim.Native.Nat.{ℕ, suc, _+_, _<_}
 use lib.Dec.{eqb}
 use lib.ListN.{length, take, drop}
@@ -76,3 +77,9 @@ Accepts text s = (before : List Record) × (outcome-of text ≡ accepted before)
 -- a text is refused at a line, which is a part of it
 abbrev pub Refuses : List ℕ → Refusal → ℕ → ℕ → List ℕ → Type 0
 Refuses text e line at part = (outcome-of text ≡ refused e line at part) × (part ≡ take (length part) (drop at text))
+
+-- what is answered for a text: P of the statement that it gives, or Q of its refusal and line
+abbrev pub By-text : List ℕ → (Statement → Type 0) → (Refusal → ℕ → Type 0) → Type 0
+By-text text P Q =
+    ((s : Statement) × Accepts text s × P s)
+    ⊎ ((e : Refusal) × (line : ℕ) × (at : ℕ) × (part : List ℕ) × Refuses text e line at part × Q e line)

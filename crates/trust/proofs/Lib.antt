@@ -1,8 +1,12 @@
 pub mod Guilds
 pub mod Serving
 pub mod Guards
+pub mod ThresholdQuestions
+pub mod ThresholdSoundness
 pub mod Soundness
 pub mod Fits
 pub mod Meanings
+pub mod Firsts
+pub mod Judged
 pub mod Fresh
 pub mod Witnessed

@@ -6,7 +6,8 @@ use Rattle.sets.specs.Sets.{inside, meets}
 use Rattle.sets.specs.Lists.{any-of, all-of}
 use Rattle.trust.specs.declared.statement.Statement.{Statement}
 use Rattle.trust.specs.Trust.{asked?, holds-quorum, holds-kernel, tolerates, consistent, available}
-use Rattle.trust.specs.ByLists.{part?, misses?, pair?}
+use Rattle.trust.specs.Judging.{b3}
+use Rattle.trust.specs.ByLists.{part?, misses?, b3-pair?, pair?}
 use Rattle.trust.specs.Statements.{fail-sets, quorum-sets, meant}
 use Rattle.trust.proofs.Fits.{lists-fit}
 use Rattle.trust.proofs.Soundness as by-lists
@@ -27,3 +28,6 @@ module _ (x : Statement) where
   pub consistent-is : (k j : ℕ) → k < x .nodes → j < x .nodes
       → consistent (meant x) (suc k) (suc j) ≡ pair? (fail-sets x (suc k)) (fail-sets x (suc j)) (quorum-sets x (suc k)) (quorum-sets x (suc j))
   consistent-is = by-lists.consistent-is (x .nodes) (fail-sets x) (quorum-sets x) (lists-fit x)
+
+  pub b3-is : (k j : ℕ) → k < x .nodes → j < x .nodes → b3 (meant x) (suc k) (suc j) ≡ b3-pair? (x .nodes) (fail-sets x (suc k)) (fail-sets x (suc j))
+  b3-is = by-lists.b3-is (x .nodes) (fail-sets x) (quorum-sets x) (lists-fit x)

@@ -3,6 +3,8 @@ pub mod Trust
 pub mod Keeping
 pub mod Sorting
 pub mod Serving
+pub mod Threshold
+pub mod Judging
 pub mod Families
 pub mod Fitting
 pub mod ByLists

@@ -1,7 +1,8 @@
 ghost use mathlib.Core.Path.{_≡_};
+ghost use Prim.Native.Nat.{_≤_};
 ghost use Rattle.sets.specs.Lists.{any-of, all-of};
 ghost use Rattle.sets.specs.Sets.{inside, meets};
-ghost use Rattle.trust.specs.ByLists.{part?, misses?, both-part?, keeps-with?, pair?};
+ghost use Rattle.trust.specs.ByLists.{part?, misses?, both-part?, b3-row?, b3-pair?, keeps-with?, pair?};
 use sets::NodeSet;
 
 // Some set of the list is all inside s.
@@ -57,6 +58,32 @@ fn both_tolerate(ours: &[u16], theirs: &[u16], s: NodeSet) -> bool
     ensures { λ r. ⌜ r ≡ both-part? (now (ours .entry)) (now (theirs .entry)) (s .0) ⌝ }
 {
     is_part(ours, s) && is_part(theirs, s)
+}
+
+// No fail-prone set of the other node, with a and a set that both tolerate, is all n nodes.
+fn leaves_open(n: u32, ours: &[u16], theirs: &[u16], a: NodeSet) -> bool
+    requires { ⌜ n ≤ 16 ⌝ }
+    ensures { λ r. ⌜ r ≡ b3-row? n (now (ours .entry)) (now (theirs .entry)) (a .0) ⌝ }
+{
+    for b in theirs {
+        if both_tolerate(ours, theirs, a.union(NodeSet(*b)).rest_within(n)) {
+            return false;
+        }
+    }
+    true
+}
+
+// No fail-prone set of each, and a set that both tolerate, are all n nodes together.
+pub fn is_b3(n: u32, ours: &[u16], theirs: &[u16]) -> bool
+    requires { ⌜ n ≤ 16 ⌝ }
+    ensures { λ r. ⌜ r ≡ b3-pair? n (now (ours .entry)) (now (theirs .entry)) ⌝ }
+{
+    for a in ours {
+        if !leaves_open(n, ours, theirs, NodeSet(*a)) {
+            return false;
+        }
+    }
+    true
 }
 
 // No quorum of the other node meets q in a set that both tolerate.

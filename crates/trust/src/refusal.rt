@@ -14,10 +14,26 @@ pub enum Refusal {
     TooMany,
     // A node has no F line.
     NoFailProneSet,
+    // A slot count outside 1 to 16.
+    SlotCount,
+    // A roll of no place, of more than 255, or shorter than its used places.
+    RollSize,
     // The faulty mask has a bit above n.
     FaultyMask,
     // The rule is not sound.
     Unsound,
+    // A slot, node or kind of message out of range.
+    NoSuch,
+    // A faulty node where a correct one is asked for, or a correct one where a faulty one is.
+    WrongParty,
+    // A value that is not fit.
+    Unfit,
+    // The slot has another proposal.
+    OtherProposal,
+    // No such message waits.
+    NotWaiting,
+    // The value is new and the roll is full.
+    RollFull,
 }
 
 impl Refusal {
@@ -31,8 +47,16 @@ impl Refusal {
             Refusal::Order => 3,
             Refusal::TooMany => 4,
             Refusal::NoFailProneSet => 5,
+            Refusal::SlotCount => 6,
+            Refusal::RollSize => 7,
             Refusal::FaultyMask => 8,
             Refusal::Unsound => 9,
+            Refusal::NoSuch => 10,
+            Refusal::WrongParty => 11,
+            Refusal::Unfit => 12,
+            Refusal::OtherProposal => 13,
+            Refusal::NotWaiting => 14,
+            Refusal::RollFull => 15,
         }
     }
 }

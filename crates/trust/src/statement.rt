@@ -6,6 +6,7 @@ use crate::family::Family;
 
 pub mod listed;
 mod making;
+mod searching;
 
 // What each node trusts: its fail-prone sets and its quorums. Those of node k stand at k - 1.
 #[derive(Clone, Copy)]

@@ -1,8 +1,9 @@
 use mathlib.Core.Path.{_≡_, sym, ap₂, _∙_}
 use mathlib.Core.Bool.{Bool}
 use mathlib.Core.List.{List}
-use Prim.Native.Nat.{ℕ}
+use Prim.Native.Nat.{ℕ, suc}
 use Rattle.trust.specs.ByLists.{pair?}
+use Rattle.trust.specs.Statements.{fail-sets, quorum-sets}
 use Rattle.trust.proofs.Meanings.{consistent-is}
 use Rattle.trust.proofs.statement.Statement.is_consistent_pair.Needs as need
 
@@ -12,5 +13,9 @@ pair-at r a b p q a′ b′ p′ q′ is ours theirs quorums others = is ∙ ap�
 
 pub returns : need.returns
 returns c =
-    pair-at (c .is-consistent .result) _ _ _ _ _ _ _ _ (c .is-consistent .ensures) (c .sets-at .ensures) (c .sets-at-2 .ensures) (c .sets-at-3 .ensures) (c .sets-at-4 .ensures)
-    ∙ sym (consistent-is (c .args .self .now) (c .args .k) (c .args .j) (c .pre .0) (c .pre .1))
+    let x = c .args .self .now in
+    let i = suc (c .args .k) in
+    let j = suc (c .args .j) in
+    pair-at (c .is-consistent .result) (c .sets-at .result .now) (c .sets-at-2 .result .now) (c .sets-at-3 .result .now) (c .sets-at-4 .result .now) (fail-sets x i) (fail-sets x j) (quorum-sets x i) (quorum-sets x j)
+    (c .is-consistent .ensures) (c .sets-at .ensures) (c .sets-at-2 .ensures) (c .sets-at-3 .ensures) (c .sets-at-4 .ensures)
+    ∙ sym (consistent-is x (c .args .k) (c .args .j) (c .pre .0) (c .pre .1))

@@ -1,0 +1,11 @@
+pub mod Places
+pub mod Entries
+pub mod Holding
+pub mod Hearing
+pub mod Waiting
+pub mod Invariant
+pub mod Argument
+pub mod Serving
+pub mod Sums
+pub mod Counting
+pub mod Example

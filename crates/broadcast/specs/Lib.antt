@@ -1,0 +1,5 @@
+pub mod Slots
+pub mod Events
+pub mod Counts
+pub mod Claims
+pub mod Theorems
