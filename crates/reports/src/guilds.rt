@@ -21,7 +21,7 @@ use trust::statement::Statement;
 use trust::statement::listed::ListedRule;
 
 // The one line of a refusal.
-fn refused_line(heap: Global, number: u8, line: usize) -> Result<String, AllocError>
+pub(crate) fn refused_line(heap: Global, number: u8, line: usize) -> Result<String, AllocError>
     ensures { λ r. ⌜ made r (λ out. string-bytes out ≡ refused-bytes number line) ⌝ }
 {
     format!(heap, "refused {number} {line}\n")

@@ -1,2 +1,3 @@
 pub mod guilds;
+pub mod judgement;
 pub mod written;

@@ -2,7 +2,9 @@
 use mathlib.Core.Path.{_≡_}
 use mathlib.Core.Bool.{true, false}
 use mathlib.Core.List.{List, [], _∷_, map}
-use Prim.Native.Nat.{ℕ, zero, suc}
+use Prim.Native.Nat.{ℕ, zero, suc, _+_}
+use Rattle.std.specs.declared.option.Option.{Option}
+use Rattle.std.specs.declared.option.Option.the-variants.{Some, None}
 use Rattle.sets.specs.Sets.{node?, rest}
 use Rattle.trust.specs.declared.judging.PairVerdict.the-variants.{FirstFailing}
 use Rattle.trust.specs.Trust.{Trust, holds-kernel, sound}
@@ -10,6 +12,12 @@ use Rattle.trust.specs.Sorting.{wise-mask, naive-mask, max-guild}
 use Rattle.trust.specs.Judging.{b3, first-pair}
 use Rattle.trust.specs.Threshold.{threshold}
 use Rattle.trust.specs.ByLists.{by-lists}
+use Rattle.protocol.specs.declared.message.Place.{Place}
+use Rattle.protocol.specs.declared.slot.Slot.{Slot}
+use Rattle.runs.specs.Calls.{State}
+use Rattle.runs.specs.Readings.{tally-of}
+use Rattle.kinds.specs.declared.issue.Issue.{Issue}
+use Rattle.kinds.specs.Issues.{fit-issue, issues}
 
 -- the list of node i
 abbrev pub of-node : List (List ℕ) → ℕ → List ℕ
@@ -34,6 +42,26 @@ pub record Sorts (faulty wise naive guild : ℕ) : Type 0 where
   pub naive-is : naive-mask five faulty ≡ naive
   pub guild-is : max-guild five faulty ≡ guild
 
+-- an issue of account 7 by one request, which a lifetime and a key tell apart
+abbrev pub renewed : ℕ → ℕ → Issue
+renewed key life = record { account = 7; device = 1; request = 1; «key_print» = key; start = 100; end = 100 + life }
+
+-- node 1 delivered the value at place p
+abbrev pub delivered-at : Option Place → Slot
+delivered-at p = record {
+  proposal = None;
+  records = record { echoed = None; readied = None; delivered = p; echoes = []; readies = [] } ∷ [];
+}
+
+-- slots 2 and 5 have one claim, under two keys
+abbrev pub twice-claimed : State Issue
+twice-claimed =
+    let none : Slot = delivered-at None in record {
+      used = 2;
+      row = renewed 1 60 ∷ renewed 2 60 ∷ [];
+      board = none ∷ none ∷ delivered-at (Some (record { 0 = 0 })) ∷ none ∷ none ∷ delivered-at (Some (record { 0 = 1 })) ∷ [];
+    }
+
 pub record Samples : Type 0 where
   pub s1 : Sorts 0x00 0x1f 0x00 0x1f
   pub s2 : Sorts 0x01 0x08 0x16 0x00
@@ -45,7 +73,8 @@ pub record Samples : Type 0 where
   pub s8 : (sound (threshold 4 1 3) ≡ true) × (sound (threshold 3 1 2) ≡ false)
   pub s9 : (i : ℕ) → node? 4 i ≡ true → (holds-kernel (threshold 4 1 3) i 0x3 ≡ true) × (holds-kernel (threshold 4 1 3) i 0x1 ≡ false)
   pub s10 : first-pair 4 4 (b3 four) ≡ FirstFailing (record { 0 = 1 }) (record { 0 = 2 })
-  -- here come s11 and s12, on values and tallies
+  pub s11 : (fit-issue (renewed 1 7776000) ≡ true) × (fit-issue (renewed 1 7776001) ≡ false) × (fit-issue (renewed 1 0) ≡ false)
+  pub s12 : tally-of issues (record { trust = five; slots = 6; faulty = 0 }) twice-claimed 1 7 ≡ (1, 1)
 
 abbrev pub sample-total : ℕ
-sample-total = 10
+sample-total = 12

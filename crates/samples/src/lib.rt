@@ -6,5 +6,5 @@ pub fn sample_count() -> u32
     ensures table { λ _. ⌜ Samples ⌝ }
     ensures total { λ r. ⌜ r ≡ sample-total ⌝ }
 {
-    10
+    12
 }

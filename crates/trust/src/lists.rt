@@ -6,7 +6,7 @@ ghost use Rattle.trust.specs.ByLists.{part?, misses?, both-part?, b3-row?, b3-
 use sets::NodeSet;
 
 // Some set of the list is all inside s.
-pub fn some_inside(masks: &[u16], s: NodeSet) -> bool
+pub(crate) fn some_inside(masks: &[u16], s: NodeSet) -> bool
     ensures { λ r. ⌜ r ≡ any-of (now (masks .entry)) (λ q. inside q (s .0)) ⌝ }
 {
     for q in masks {
@@ -18,7 +18,7 @@ pub fn some_inside(masks: &[u16], s: NodeSet) -> bool
 }
 
 // s is part of some set of the list.
-pub fn is_part(masks: &[u16], s: NodeSet) -> bool
+pub(crate) fn is_part(masks: &[u16], s: NodeSet) -> bool
     ensures { λ r. ⌜ r ≡ part? (now (masks .entry)) (s .0) ⌝ }
 {
     for f in masks {
@@ -30,7 +30,7 @@ pub fn is_part(masks: &[u16], s: NodeSet) -> bool
 }
 
 // Every set of the list has a node in s.
-pub fn all_meet(masks: &[u16], s: NodeSet) -> bool
+pub(crate) fn all_meet(masks: &[u16], s: NodeSet) -> bool
     ensures { λ r. ⌜ r ≡ all-of (now (masks .entry)) (λ q. meets q (s .0)) ⌝ }
 {
     for q in masks {
@@ -42,7 +42,7 @@ pub fn all_meet(masks: &[u16], s: NodeSet) -> bool
 }
 
 // Each fail-prone set misses a quorum.
-pub fn is_available(fails: &[u16], quorums: &[u16]) -> bool
+pub(crate) fn is_available(fails: &[u16], quorums: &[u16]) -> bool
     ensures { λ r. ⌜ r ≡ misses? (now (fails .entry)) (now (quorums .entry)) ⌝ }
 {
     for f in fails {
@@ -74,7 +74,7 @@ fn leaves_open(n: u32, ours: &[u16], theirs: &[u16], a: NodeSet) -> bool
 }
 
 // No fail-prone set of each, and a set that both tolerate, are all n nodes together.
-pub fn is_b3(n: u32, ours: &[u16], theirs: &[u16]) -> bool
+pub(crate) fn is_b3(n: u32, ours: &[u16], theirs: &[u16]) -> bool
     requires { ⌜ n ≤ 16 ⌝ }
     ensures { λ r. ⌜ r ≡ b3-pair? n (now (ours .entry)) (now (theirs .entry)) ⌝ }
 {
@@ -99,7 +99,7 @@ fn keeps_with(ours: &[u16], theirs: &[u16], others: &[u16], q: NodeSet) -> bool
 }
 
 // No two quorums of the pair meet in a set that both tolerate.
-pub fn is_consistent(ours: &[u16], theirs: &[u16], quorums: &[u16], others: &[u16]) -> bool
+pub(crate) fn is_consistent(ours: &[u16], theirs: &[u16], quorums: &[u16], others: &[u16]) -> bool
     ensures { λ r. ⌜ r ≡ pair? (now (ours .entry)) (now (theirs .entry)) (now (quorums .entry)) (now (others .entry)) ⌝ }
 {
     for q in quorums {

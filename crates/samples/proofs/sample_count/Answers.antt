@@ -11,11 +11,12 @@ use Rattle.trust.specs.Sorting.{guild?, union-below}
 use Rattle.trust.specs.Judging.{b3, first-node, first-pair}
 use Rattle.trust.proofs.ThresholdQuestions.{holds-kernel-is}
 use Rattle.trust.proofs.ThresholdSoundness.{sound-is}
+use Rattle.runs.specs.Readings.{count-below}
 use Rattle.samples.specs.Samples.{Samples}
 use Rattle.samples.proofs.sample_count.Needs as need
 
 table : Samples
-unfolding any-below all-below nodes-with any-of all-of holds-quorum tolerates b3 guild? union-below first-node first-pair ones onesIn
+unfolding any-below all-below nodes-with any-of all-of holds-quorum tolerates b3 guild? union-below first-node first-pair ones onesIn count-below
 table = record {
   s1 = record { wise-is = refl; naive-is = refl; guild-is = refl };
   s2 = record { wise-is = refl; naive-is = refl; guild-is = refl };
@@ -30,6 +31,8 @@ table = record {
     holds-kernel-is 4 1 3 i 1 ∙ ap (λ b. (b && true) && ltb (4 - ones 1) 3) e,
   );
   s10 = refl;
+  s11 = (refl, refl, refl);
+  s12 = refl;
 }
 
 pub returns : need.returns

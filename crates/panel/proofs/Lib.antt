@@ -1,0 +1,12 @@
+pub mod Finding
+pub mod Refusing
+pub mod Answering
+pub mod Proposing
+pub mod Forging
+pub mod Playing
+pub mod Promising
+pub mod Nodes
+pub mod Holding
+pub mod Tallies
+pub mod Settings
+pub mod Rolls

@@ -1,0 +1,4 @@
+pub mod Views
+pub mod Playing
+pub mod Fates
+pub mod Boards

@@ -1,0 +1,3 @@
+mod board;
+pub mod panel;
+mod roll;

@@ -1,0 +1,5 @@
+pub mod Values
+pub mod Calls
+pub mod Readings
+pub mod Promise
+pub mod Theorems
