@@ -120,7 +120,7 @@ module _ {V : Type 0} (values : Values V) (w : World) (o : Opens w) where
 
   -- after one call
   module _ (h : History V) (x : State V) (r : Reached values w h x) where
-    within : (s : ℕ) → slot? w s ≡ true → s < length (x .board)
+    pub within : (s : ℕ) → slot? w s ≡ true → s < length (x .board)
     within s e = omega (arith, in-board s e, r .long)
 
     kept-after : (s : ℕ) {c : Call V} {a : Answer} {y : Slot} → slot? w s ≡ true → Slot-after values w x c s a y → Inv (setting w s) (guild w) y

@@ -6,3 +6,9 @@ pub mod Standing
 pub mod Invariants
 pub mod Tallies
 pub mod Promised
+pub mod LawsOutcome
+pub mod LawsSteps
+pub mod LawsWaiting
+pub mod LawsArrivals
+pub mod LawsLater
+pub mod LawsRecord

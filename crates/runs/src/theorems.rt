@@ -9,5 +9,5 @@ pub fn run_theorems<V: ValueKind>() -> u32
     ensures number { λ r. ⌜ r ≡ length (theorems (V·ValueKind .values)) ⌝ }
     ensures hold { λ _. ⌜ All-hold (theorems (V·ValueKind .values)) ⌝ }
 {
-    1
+    4
 }
