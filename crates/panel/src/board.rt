@@ -2,7 +2,6 @@ ghost use Prim.Native.Nat.{ℕ, _≤_};
 use protocol::slot::Slot;
 
 pub(crate) mod counting;
-pub(crate) mod messages;
 pub(crate) mod parties;
 pub(crate) mod steps;
 pub(crate) mod tallying;

@@ -7,6 +7,7 @@ ghost use Rattle.panel.specs.Views.{world-of};
 use super::Panel;
 use protocol::message::Kind;
 use protocol::message::Place;
+use sets::Node;
 use trust::rule::TrustRule;
 
 // The kind with that number; which kind stands for a number that no kind has is of no account.
@@ -22,32 +23,26 @@ impl<'r, R: TrustRule> Panel<'r, R> {
         requires { ⌜ slot? (world-of meaning (now self)) slot ≡ true ⌝ ∗ ⌜ node? (world-of meaning (now self) .trust .size) from ≡ true ⌝ ∗ ⌜ node? (world-of meaning (now self) .trust .size) to ≡ true ⌝ }
         ensures { λ r. ⌜ r ≡ heeds-in (world-of meaning (now (self .entry))) (now (self .entry) .board .slots) slot kind from to ⌝ }
     {
-        let sender = self.sender(slot);
+        let parties = self.parties(slot);
+        let board = &self.board;
         let may_say = match kind {
-            Kind::Send => from == sender,
+            Kind::Send => from == parties.sender.0,
             Kind::Echo => true,
             Kind::Ready => true,
         };
         may_say
-            && self.board
-                .taken(slot as usize, sender, kind, from, to)
+            && parties
+                .taken(&board.slots[slot as usize], kind, Node(from), Node(to))
                 .is_none()
     }
 
     // The place of the value of a message that waits.
     pub(super) fn waiting(&self, kind: Kind, slot: u32, from: u32, to: u32) -> Option<Place>
-        requires { ⌜ slot? (world-of meaning (now self)) slot ≡ true ⌝ ∗ ⌜ node? (world-of meaning (now self) .trust .size) from ≡ true ⌝ ∗ ⌜ node? (world-of meaning (now self) .trust .size) to ≡ true ⌝ }
+        requires { ⌜ slot? (world-of meaning (now self)) slot ≡ true ⌝ }
         ensures { λ r. ⌜ r ≡ waiting-in (world-of meaning (now (self .entry))) (now (self .entry) .board .slots) slot kind from to ⌝ }
     {
-        let sender = self.sender(slot);
-        if !self.is_correct(from) || !self.is_correct(to) {
-            return None;
-        }
-        if self.board
-            .taken(slot as usize, sender, kind, from, to)
-            .is_some() {
-            return None;
-        }
-        self.board.said(slot as usize, sender, kind, from)
+        let parties = self.parties(slot);
+        let board = &self.board;
+        parties.waiting(&board.slots[slot as usize], kind, Node(from), Node(to))
     }
 }

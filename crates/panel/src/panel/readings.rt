@@ -17,7 +17,7 @@ use trust::rule::TrustRule;
 
 impl<'r, R: TrustRule> Panel<'r, R> {
     // Who takes part in a slot.
-    fn parties(&self, slot: u32) -> Parties
+    pub(super) fn parties(&self, slot: u32) -> Parties
         ensures { λ r. ⌜ Parties-of (setting (world-of meaning (now (self .entry))) slot) r ⌝ }
     {
         let size = self.rule.size();
