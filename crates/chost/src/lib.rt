@@ -1,3 +1,5 @@
+#![tactic(auto)]
+
 ghost use Rattle.std.specs.Prelude.{◌≡◌, ℕ, ◌+◌, ◌*◌, ◌^◌, ◌<◌};
 ghost use Rattle.trust.specs.Refusals.{refusal_number};
 ghost use Rattle.chost.specs.Packed.{packed_masks, packed_refusal, packed, Packs};

@@ -1,3 +1,5 @@
+#![tactic(auto)]
+
 use reports::guilds::report;
 use std::io::Read;
 

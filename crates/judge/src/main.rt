@@ -1,3 +1,5 @@
+#![tactic(auto)]
+
 use reports::judgement::report_judgement;
 use std::io::Read;
 

@@ -1,2 +1,4 @@
+#![tactic(auto)]
+
 pub mod issue;
 pub mod withdrawal;

@@ -1,3 +1,5 @@
+#![tactic(auto)]
+
 mod board;
 pub mod panel;
 mod roll;

@@ -1,3 +1,5 @@
+#![tactic(auto)]
+
 pub mod message;
 pub mod record;
 pub mod slot;

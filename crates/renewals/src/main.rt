@@ -1,3 +1,5 @@
+#![tactic(auto)]
+
 use anyhow::anyhow;
 use kinds::issue::Issue;
 use panel::panel::Panel;

@@ -1,3 +1,5 @@
+#![tactic(auto)]
+
 pub mod guilds;
 pub mod judgement;
 pub mod written;

@@ -1,3 +1,5 @@
+#![tactic(auto)]
+
 ghost use Rattle.std.specs.Prelude.{◌≡◌, ℕ, ◌≤◌, min, true, not, ◌&&◌, ◌||◌, Decides, ◌==◌, bit_and, bit_or, count_ones};
 ghost use Rattle.sets.specs.Sets.{node?, set?, has, inside, meets, with_node, how_many, rest};
 

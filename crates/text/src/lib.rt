@@ -1,3 +1,5 @@
+#![tactic(auto)]
+
 mod draft;
 mod fields;
 mod reader;

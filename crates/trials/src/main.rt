@@ -1,3 +1,5 @@
+#![tactic(auto)]
+
 mod calls;
 mod line;
 mod playing;

@@ -27,7 +27,7 @@ fn with_next(set: NodeSet, k: u32, member: bool) -> NodeSet
 // Node k + 1 is a member of the set and holds a quorum inside it.
 fn stays<R: TrustRule>(rule: &R, set: NodeSet, k: u32) -> bool
     requires { k < 16 }
-    ensures { result ≡ keep? (meaning rule.now) set.0 (k + 1) }
+    ensures { result ≡ keep? (R.meaning rule.now) set.0 (k + 1) }
 {
     let node = Node(k + 1);
     set.has(node) && rule.holds_quorum(node, set)
@@ -35,7 +35,7 @@ fn stays<R: TrustRule>(rule: &R, set: NodeSet, k: u32) -> bool
 
 // Those members of the set that hold a quorum inside it.
 fn kept<R: TrustRule>(rule: &R, set: NodeSet) -> NodeSet
-    ensures { result.0 ≡ keep (meaning rule.now) set.0 }
+    ensures { result.0 ≡ keep (R.meaning rule.now) set.0 }
 {
     let mut rest = NodeSet(0);
     let size = rule.size();
@@ -48,7 +48,7 @@ fn kept<R: TrustRule>(rule: &R, set: NodeSet) -> NodeSet
 // Node k + 1 is correct and tolerates the faulty set.
 fn is_wise<R: TrustRule>(rule: &R, faulty: NodeSet, k: u32) -> bool
     requires { k < 16 }
-    ensures { result ≡ wise? (meaning rule.now) faulty.0 (k + 1) }
+    ensures { result ≡ wise? (R.meaning rule.now) faulty.0 (k + 1) }
 {
     let node = Node(k + 1);
     !faulty.has(node) && rule.tolerated(node, faulty)
@@ -57,7 +57,7 @@ fn is_wise<R: TrustRule>(rule: &R, faulty: NodeSet, k: u32) -> bool
 // Node k + 1 is correct and does not.
 fn is_naive<R: TrustRule>(rule: &R, faulty: NodeSet, k: u32) -> bool
     requires { k < 16 }
-    ensures { result ≡ naive? (meaning rule.now) faulty.0 (k + 1) }
+    ensures { result ≡ naive? (R.meaning rule.now) faulty.0 (k + 1) }
 {
     let node = Node(k + 1);
     !faulty.has(node) && !rule.tolerated(node, faulty)
@@ -65,7 +65,7 @@ fn is_naive<R: TrustRule>(rule: &R, faulty: NodeSet, k: u32) -> bool
 
 // What is left of the wise nodes when nobody is left out any more.
 fn largest_guild<R: TrustRule>(rule: &R, wise: NodeSet) -> NodeSet
-    ensures { (f : ℕ) → wise.0 ≡ wise_mask (meaning rule.now) f → result.0 ≡ max_guild (meaning rule.now) f }
+    ensures { (f : ℕ) → wise.0 ≡ wise_mask (R.meaning rule.now) f → result.0 ≡ max_guild (R.meaning rule.now) f }
 {
     let mut guild = wise;
     let mut next = kept(rule, guild);
@@ -78,7 +78,7 @@ fn largest_guild<R: TrustRule>(rule: &R, wise: NodeSet) -> NodeSet
 
 // Refused where the faulty mask has a bit above the rule's size.
 pub fn sort<R: TrustRule>(rule: &R, faulty: NodeSet) -> Result<Sorted, Refusal>
-    ensures sorts { elim result [ Ok s ↦ (set? (meaning rule.now).size faulty.0 ≡ true) × (s.wise.0 ≡ wise_mask (meaning rule.now) faulty.0) × (s.naive.0 ≡ naive_mask (meaning rule.now) faulty.0) × (s.guild.0 ≡ max_guild (meaning rule.now) faulty.0) | Err e ↦ (set? (meaning rule.now).size faulty.0 ≡ false) × (e ≡ Refusal.FaultyMask) ] }
+    ensures sorts { elim result [ Ok s ↦ (set? (R.meaning rule.now).size faulty.0 ≡ true) × (s.wise.0 ≡ wise_mask (R.meaning rule.now) faulty.0) × (s.naive.0 ≡ naive_mask (R.meaning rule.now) faulty.0) × (s.guild.0 ≡ max_guild (R.meaning rule.now) faulty.0) | Err e ↦ (set? (R.meaning rule.now).size faulty.0 ≡ false) × (e ≡ Refusal.FaultyMask) ] }
     ensures serves { SoundServes }
 {
     let size = rule.size();

@@ -8,7 +8,7 @@ pub returns-then-all-meet : goal.returns-then-all-meet
 returns-then-all-meet c = broken c.args.fails.now (λ x. not (all_of c.args.quorums.now (λ q. meets q x))) c.loop-f.f-index c.loop-f-test.true (ap not c.if-all-meet.ensures)
 
 pub loop-f-preserved : goal.loop-f-preserved
-loop-f-preserved c = below_more _ _ c.loop-f.invariant (sym (ap not c.if-all-meet.ensures))
+loop-f-preserved c = below_more _ _ c.loop-f.invariant (sym (ap not c.if-all_meet.ensures))
 
 pub returns : goal.returns
 returns c = held c.args.fails.now (λ x. not (all_of c.args.quorums.now (λ q. meets q x))) c.loop-f.f-index c.loop-f-test.false c.loop-f.invariant

@@ -26,7 +26,7 @@ loop-b-preserved c =
     let a = c.args.a.0 in
     let i = c.loop-b.b-index in
     below_more (λ k. leaves_open? n fs gs (bit_or a (get_or gs k 0)) ≡ true) i c.loop-b.invariant
-    (sym (open_at fs gs n c.union.result.0 (bit_or a (get_or gs i 0)) c.rest-within.result.0 false c.requires c.rest-within.ensures.value c.union.ensures.value c.if-both-tolerate.ensures))
+    (sym (open_at fs gs n c.union.result.0 (bit_or a (get_or gs i 0)) c.rest_within.result.0 false c.requires c.rest_within.ensures.value c.union.ensures.value c.if-both_tolerate.ensures))
 
 pub returns : goal.returns
 returns c = held c.args.theirs.now (λ b. leaves_open? c.args.n c.args.ours.now c.args.theirs.now (bit_or c.args.a.0 b)) c.loop-b.b-index c.loop-b-test.false c.loop-b.invariant

@@ -9,7 +9,7 @@ unfolding nodes_with
 loop-k-init g c = refl
 
 pub loop-k-preserved : goal.loop-k-preserved
-loop-k-preserved g c = one_more c.loop-k.k _ (keep? (g.R.TrustRule.meaning c.args.rule.now) c.args.set.0) _ _ c.loop-k.invariant c.stays.ensures c.with-next-rest.ensures
+loop-k-preserved g c = one_more c.loop-k.k _ (keep? (g.R.TrustRule.meaning c.args.rule.now) c.args.set.0) _ _ c.loop-k.invariant c.stays.ensures c.with_next-rest.ensures
 
 pub with-next-rest-requires : goal.with-next-rest-requires
 with-next-rest-requires g c =

@@ -17,8 +17,8 @@ pub loop-k-preserved : goal.loop-k-preserved
 loop-k-preserved g c =
     let t = g.R.TrustRule.meaning c.args.rule.now in
     let f = c.args.faulty.0 in (
-      one_more c.loop-k.k _ (wise? t f) _ _ c.loop-k.invariant.0 c.is-wise.ensures c.with-next-wise.ensures,
-      one_more c.loop-k.k _ (naive? t f) _ _ c.loop-k.invariant.1 c.is-naive.ensures c.with-next-naive.ensures,
+      one_more c.loop-k.k _ (wise? t f) _ _ c.loop-k.invariant.0 c.is_wise.ensures c.with_next-wise.ensures,
+      one_more c.loop-k.k _ (naive? t f) _ _ c.loop-k.invariant.1 c.is_naive.ensures c.with_next-naive.ensures,
     )
 
 pub with-next-wise-requires : goal.with-next-wise-requires
@@ -47,7 +47,7 @@ returns g c =
         fits_at true t.size _ f c.if-not-fits.ensures.value c.size-size.ensures,
         wise,
         all_looked_at t.size c.loop-k.k c.loop-k.naive.0 (naive? t f) c.loop-k.invariant.1 all,
-        c.largest-guild-guild.ensures f wise,
+        c.largest_guild-guild.ensures f wise,
       );
       serves = sound_serves;
     }

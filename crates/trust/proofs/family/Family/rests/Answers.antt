@@ -20,7 +20,7 @@ loop-mask-preserved c =
     let few : length (sets_in x) ≤ 16 = omega (arith, length-take x.count x.masks) in
     let so_far : length (sets_in c.loop-mask.rests) ≡ i = ap length c.loop-mask.invariant ∙ length-map (take i (sets_in x)) f ∙ length-take i (sets_in x) ∙ omega arith in
     let room = c.push.ensures.room ∙ lt-ltb (length (sets_in c.loop-mask.rests)) 16 (omega arith) in
-    mapped_more f (sets_in x) i _ _ _ l c.loop-mask.invariant (c.rest-within.ensures.value ∙ ap (λ s. f (get_or s i 0)) e) (c.push.ensures.added room)
+    mapped_more f (sets_in x) i _ _ _ l c.loop-mask.invariant (c.rest_within.ensures.value ∙ ap (λ s. f (get_or s i 0)) e) (c.push.ensures.added room)
 
 pub returns : goal.returns
 returns c =

@@ -16,7 +16,7 @@ returns-in-FirstFailing c =
 pub loop-k-preserved : goal.loop-k-preserved
 loop-k-preserved c =
     let x = c.args.self.now in
-    row_passed x.nodes x.nodes (demanded c.args.demand (meant x)) c.loop-k.k c.loop-k.invariant c.in-default.ensures
+    row_passed x.nodes x.nodes (demanded c.args.demand (meant x)) c.loop-k.k c.loop-k.invariant c.in_default.ensures
 
 pub returns : goal.returns
 returns c =

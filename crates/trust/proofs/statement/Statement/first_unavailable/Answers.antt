@@ -17,7 +17,7 @@ returns-then-not-is-available-node c =
 pub loop-k-preserved : goal.loop-k-preserved
 loop-k-preserved c =
     let x = c.args.self.now in
-    node_passed x.nodes (available (meant x)) c.loop-k.k c.loop-k.invariant c.if-not-is-available-node.ensures
+    node_passed x.nodes (available (meant x)) c.loop-k.k c.loop-k.invariant c.if-not-is_available_node.ensures
 
 pub returns : goal.returns
 returns c =

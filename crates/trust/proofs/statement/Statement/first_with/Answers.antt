@@ -16,7 +16,7 @@ returns-then-not-meets-demand c =
 pub loop-j-preserved : goal.loop-j-preserved
 loop-j-preserved c =
     let x = c.args.self.now in
-    node_passed x.nodes (demanded c.args.demand (meant x) (suc c.args.k)) c.loop-j.j c.loop-j.invariant c.if-not-meets-demand.ensures
+    node_passed x.nodes (demanded c.args.demand (meant x) (suc c.args.k)) c.loop-j.j c.loop-j.invariant c.if-not-meets_demand.ensures
 
 pub returns : goal.returns
 returns c =

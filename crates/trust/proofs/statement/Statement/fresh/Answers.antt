@@ -23,7 +23,7 @@ invariant-of-result c =
 pub returns : goal.returns
 returns c =
     record {
-      says = (refl, c.only-first.ensures, c.only-first-2.ensures);
-      sound = lone_sound (at_node c.only-first.result) (at_node c.only-first-2.result) c.only-first.ensures c.only-first-2.ensures;
+      says = (refl, c.only_first.ensures, c.only_first-2.ensures);
+      sound = lone_sound (at_node c.only_first.result) (at_node c.only_first-2.result) c.only_first.ensures c.only_first-2.ensures;
       witnesses = witnessed;
     }

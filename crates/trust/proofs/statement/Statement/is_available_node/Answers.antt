@@ -4,4 +4,4 @@ use Rattle.trust.proofs.Meanings.{available_is}
 use Rattle.trust.proofs.statement.Statement.is_available_node.Goals as goal
 
 pub returns : goal.returns
-returns c = c.is-available.ensures ∙ ap₂ misses? c.sets-at.ensures c.sets-at-2.ensures ∙ sym (available_is c.args.self.now c.args.k c.requires)
+returns c = c.is_available.ensures ∙ ap₂ misses? c.sets_at.ensures c.sets_at-2.ensures ∙ sym (available_is c.args.self.now c.args.k c.requires)

@@ -6,4 +6,4 @@ use Rattle.trust.proofs.statement.Statement.is_b3_pair.Goals as goal
 pub returns : goal.returns
 returns c =
     let x = c.args.self.now in
-    c.is-b3.ensures ∙ ap₂ (b3_pair? x.nodes) c.sets-at.ensures c.sets-at-2.ensures ∙ sym (b3_is x c.args.k c.args.j c.requires.0 c.requires.1)
+    c.is_b3.ensures ∙ ap₂ (b3_pair? x.nodes) c.sets_at.ensures c.sets_at-2.ensures ∙ sym (b3_is x c.args.k c.args.j c.requires.0 c.requires.1)

@@ -7,7 +7,7 @@ pub returns-in-FirstFailing : goal.returns-in-FirstFailing
 returns-in-FirstFailing c = unsound_node (meant c.args.self.now) c.in-FirstFailing.field-0 c.in-FirstFailing.ensures
 
 pub returns-in-All : goal.returns-in-All
-returns-in-All c = sym ((sound_is (meant c.args.self.now)).1 (sym c.in-All.ensures, sym c.in-default.ensures))
+returns-in-All c = sym ((sound_is (meant c.args.self.now)).1 (sym c.in-All.ensures, sym c.in_default.ensures))
 
 pub returns-in-FirstFailing-first-failing : goal.returns-in-FirstFailing-first-failing
 returns-in-FirstFailing-first-failing c =
