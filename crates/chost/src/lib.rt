@@ -27,7 +27,7 @@ fn pack_refusal(refusal: Refusal) -> u64
 
 // The answer for a rule: 8 comes before 9.
 fn pack<R: TrustRule>(rule: &R, faulty: NodeSet) -> u64
-    ensures { result ≡ packed (meaning rule.now) faulty.0 }
+    ensures { result ≡ packed (R.meaning rule.now) faulty.0 }
 {
     match sort(rule, faulty) {
         Err(refusal) => pack_refusal(refusal),

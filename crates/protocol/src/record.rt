@@ -97,8 +97,8 @@ impl Record {
         sender: Node,
         message: Message,
     ) -> Heard
-        ensures after { self.new ≡ (hear (meaning rule.now) me.0 sender.0 self.old message.kind message.from.0 message.place).0 }
-        ensures said { result ≡ (hear (meaning rule.now) me.0 sender.0 self.old message.kind message.from.0 message.place).1 }
+        ensures after { self.new ≡ (hear (R.meaning rule.now) me.0 sender.0 self.old message.kind message.from.0 message.place).0 }
+        ensures said { result ≡ (hear (R.meaning rule.now) me.0 sender.0 self.old message.kind message.from.0 message.place).1 }
     {
         let from = message.from.0;
         let place = message.place;

@@ -35,8 +35,8 @@ fn add_row<R: TrustRule>(
     rule: &R,
     faulty: NodeSet,
 ) -> Result<(), AllocError>
-    requires { set? (meaning rule.now).size faulty.0 ≡ true }
-    ensures { OnOk result (string_bytes out.new ≡ string_bytes out.old ++ row_of (meaning rule.now) faulty.0) }
+    requires { set? (R.meaning rule.now).size faulty.0 ≡ true }
+    ensures { OnOk result (string_bytes out.new ≡ string_bytes out.old ++ row_of (R.meaning rule.now) faulty.0) }
 {
     let sorted = match sort(rule, faulty) {
         Ok(sorted) => sorted,
@@ -49,7 +49,7 @@ fn add_row<R: TrustRule>(
 
 // The table of a rule, or the refusal of one that is not sound.
 fn table<R: TrustRule>(heap: Global, rule: &R) -> Result<String, AllocError>
-    ensures { IfOk result (λ out. string_bytes out ≡ table_of (meaning rule.now)) }
+    ensures { IfOk result (λ out. string_bytes out ≡ table_of (R.meaning rule.now)) }
 {
     if !rule.sound() {
         return refused_line(heap, Refusal::Unsound.number(), 0);

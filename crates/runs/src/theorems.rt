@@ -6,8 +6,8 @@ use crate::value::ValueKind;
 
 // How many theorems of whole runs the table has; all of them hold of every kind of value.
 pub fn run_theorems<V: ValueKind>() -> u32
-    ensures number { result ≡ length (theorems V.ValueKind.values) }
-    ensures hold { AllHold (theorems V.ValueKind.values) }
+    ensures number { result ≡ length (theorems V.values) }
+    ensures hold { AllHold (theorems V.values) }
 {
     4
 }

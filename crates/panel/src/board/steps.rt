@@ -50,8 +50,8 @@ impl Board {
         message: Message,
     ) -> Heard
         requires { (slot < 16) × ((1 ≤ to.0) × (to.0 ≤ 16)) }
-        ensures said { result ≡ (hear (meaning rule.now) to.0 sender.0 (record_at (slot_at self.old.slots slot) to.0) message.kind message.from.0 message.place).1 }
-        ensures slots { (faulty : ℕ) → self.new.slots ≡ slice_set self.old.slots slot (hears (record { trust = meaning rule.now; faulty = faulty; sender = sender.0 }) message.kind message.from.0 to.0 message.place (slot_at self.old.slots slot)) }
+        ensures said { result ≡ (hear (R.meaning rule.now) to.0 sender.0 (record_at (slot_at self.old.slots slot) to.0) message.kind message.from.0 message.place).1 }
+        ensures slots { (faulty : ℕ) → self.new.slots ≡ slice_set self.old.slots slot (hears (record { trust = R.meaning rule.now; faulty = faulty; sender = sender.0 }) message.kind message.from.0 to.0 message.place (slot_at self.old.slots slot)) }
         ensures used { self.new.used ≡ self.old.used }
     {
         let k = (to.0 - 1) as usize;

@@ -21,7 +21,7 @@ impl Board {
     // The value of the row that a node holds in a slot. A delivered place past the row has none.
     fn held<'v, V: ValueKind>(&self, row: &'v [V], node: Node, slot: usize) -> Option<&'v V>
         requires { (slot < 16) × ((1 ≤ node.0) × (node.0 ≤ 16)) }
-        ensures { lent values result ≡ held values (state_on self.now row.now) node.0 slot }
+        ensures { lent V.values result ≡ held V.values (state_on self.now row.now) node.0 slot }
     {
         let place = self.delivered(slot, node)?;
         row.get(place.0 as usize)
@@ -30,7 +30,7 @@ impl Board {
     // A node's value in a slot is of the account.
     fn is_of<V: ValueKind>(&self, row: &[V], node: Node, slot: usize, account: u16) -> bool
         requires { (slot < 16) × ((1 ≤ node.0) × (node.0 ≤ 16)) }
-        ensures { result ≡ of_account values account (held values (state_on self.now row.now) node.0 slot) }
+        ensures { result ≡ of_account V.values account (held V.values (state_on self.now row.now) node.0 slot) }
     {
         match self.held(row, node, slot) {
             Some(value) => value.account() == account,
@@ -41,7 +41,7 @@ impl Board {
     // A node's value in a slot makes the claim of another value.
     fn makes_claim<V: ValueKind>(&self, row: &[V], node: Node, slot: usize, other: &V) -> bool
         requires { (slot < 16) × ((1 ≤ node.0) × (node.0 ≤ 16)) }
-        ensures { result ≡ claims values (values.claim (values.meaning other.now)) (held values (state_on self.now row.now) node.0 slot) }
+        ensures { result ≡ claims V.values (V.values.claim (V.values.meaning other.now)) (held V.values (state_on self.now row.now) node.0 slot) }
     {
         match self.held(row, node, slot) {
             Some(value) => value.same_claim(other),
@@ -52,7 +52,7 @@ impl Board {
     // No lower slot that a node delivered carries the value's claim.
     fn is_first<V: ValueKind>(&self, row: &[V], node: Node, slot: usize, value: &V) -> bool
         requires { (slot < 16) × ((1 ≤ node.0) × (node.0 ≤ 16)) }
-        ensures { result ≡ first_claim values (state_on self.now row.now) node.0 slot (values.claim (values.meaning value.now)) }
+        ensures { result ≡ first_claim V.values (state_on self.now row.now) node.0 slot (V.values.claim (V.values.meaning value.now)) }
     {
         for lower in 0..slot {
             if self.makes_claim(row, node, lower, value) {
@@ -65,7 +65,7 @@ impl Board {
     // A node's delivery in a slot counts.
     fn is_counted<V: ValueKind>(&self, row: &[V], node: Node, slot: usize) -> bool
         requires { (slot < 16) × ((1 ≤ node.0) × (node.0 ≤ 16)) }
-        ensures { result ≡ counts? values (state_on self.now row.now) node.0 slot }
+        ensures { result ≡ counts? V.values (state_on self.now row.now) node.0 slot }
     {
         match self.held(row, node, slot) {
             Some(value) => self.is_first(row, node, slot, value),
@@ -82,7 +82,7 @@ impl Board {
         account: u16,
     ) -> (u32, u32)
         requires { (slots ≤ 16) × ((1 ≤ node.0) × (node.0 ≤ 16)) }
-        ensures { result ≡ tally_of values (of_slots slots) (state_on self.now row.now) node.0 account }
+        ensures { result ≡ tally_of V.values (of_slots slots) (state_on self.now row.now) node.0 account }
     {
         let mut counted = 0;
         let mut left_out = 0;

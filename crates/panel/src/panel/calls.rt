@@ -33,7 +33,7 @@ impl<'r, R: TrustRule> Panel<'r, R> {
         fit: bool,
         known: Option<Place>,
     ) -> Option<Refusal>
-        ensures { result ≡ first_of (propose_refusals (world_of meaning self.now) (state_of {V = Unit {0}} self.now []) places slot fit known) }
+        ensures { result ≡ first_of (propose_refusals (world_of R.meaning self.now) (state_of {V = Unit {0}} self.now []) places slot fit known) }
     {
         if self.is_roll_unfit(places) {
             return Some(Refusal::RollSize);
@@ -58,7 +58,7 @@ impl<'r, R: TrustRule> Panel<'r, R> {
 
     // A slot's correct sender proposes a value. The same value again changes nothing.
     pub fn propose<V: ValueKind + Copy>(&mut self, roll: &mut [V], slot: u32, value: V) -> Answer
-        ensures { Does V.ValueKind.values R.TrustRule.meaning self.old roll.old (Propose slot value) result self.new roll.new }
+        ensures { Does V.values R.meaning self.old roll.old (Propose slot value) result self.new roll.new }
     {
         let known = find(roll, self.board.used, &value);
         if let Some(refusal) = self.propose_refusal(roll.len(), slot, value.fit(), known) {

@@ -27,7 +27,7 @@ impl<'r, R: TrustRule> Panel<'r, R> {
         fit: bool,
         known: Option<Place>,
     ) -> Option<Refusal>
-        ensures { result ≡ first_of (forge_refusals (world_of meaning self.now) (state_of {V = Unit {0}} self.now []) places kind slot from to fit known) }
+        ensures { result ≡ first_of (forge_refusals (world_of R.meaning self.now) (state_of {V = Unit {0}} self.now []) places kind slot from to fit known) }
     {
         if self.is_roll_unfit(places) {
             return Some(Refusal::RollSize);
@@ -60,7 +60,7 @@ impl<'r, R: TrustRule> Panel<'r, R> {
         to: u32,
         value: V,
     ) -> Answer
-        ensures { Does V.ValueKind.values R.TrustRule.meaning self.old roll.old (Forge kind slot from to value) result self.new roll.new }
+        ensures { Does V.values R.meaning self.old roll.old (Forge kind slot from to value) result self.new roll.new }
     {
         let known = find(roll, self.board.used, &value);
         if let Some(refusal) = self.forge_refusal(
@@ -93,7 +93,7 @@ impl<'r, R: TrustRule> Panel<'r, R> {
 
     // A waiting message of a correct node reaches a correct node.
     pub fn hand(&mut self, kind: u32, slot: u32, from: u32, to: u32) -> Answer
-        ensures { Hands R.TrustRule.meaning self.old kind slot from to result self.new }
+        ensures { Hands R.meaning self.old kind slot from to result self.new }
     {
         if !self.is_message(kind, slot, from, to) {
             return Answer::Refused(Refusal::NoSuch);

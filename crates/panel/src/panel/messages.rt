@@ -18,8 +18,8 @@ pub(super) fn kind_of(number: u32) -> Kind
 impl<'r, R: TrustRule> Panel<'r, R> {
     // A node does not ignore such a message.
     pub(super) fn heeds(&self, kind: Kind, slot: u32, from: u32, to: u32) -> bool
-        requires { (slot? (world_of meaning self.now) slot ≡ true) × ((node? (world_of meaning self.now).trust.size from ≡ true) × (node? (world_of meaning self.now).trust.size to ≡ true)) }
-        ensures { result ≡ heeds_in (world_of meaning self.now) self.now.board.slots slot kind from to }
+        requires { (slot? (world_of R.meaning self.now) slot ≡ true) × ((node? (world_of R.meaning self.now).trust.size from ≡ true) × (node? (world_of R.meaning self.now).trust.size to ≡ true)) }
+        ensures { result ≡ heeds_in (world_of R.meaning self.now) self.now.board.slots slot kind from to }
     {
         let parties = self.parties(slot);
         let board = &self.board;
@@ -36,8 +36,8 @@ impl<'r, R: TrustRule> Panel<'r, R> {
 
     // The place of the value of a message that waits.
     pub(super) fn waiting(&self, kind: Kind, slot: u32, from: u32, to: u32) -> Option<Place>
-        requires { slot? (world_of meaning self.now) slot ≡ true }
-        ensures { result ≡ waiting_in (world_of meaning self.now) self.now.board.slots slot kind from to }
+        requires { slot? (world_of R.meaning self.now) slot ≡ true }
+        ensures { result ≡ waiting_in (world_of R.meaning self.now) self.now.board.slots slot kind from to }
     {
         let parties = self.parties(slot);
         let board = &self.board;

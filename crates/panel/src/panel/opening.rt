@@ -11,7 +11,7 @@ use trust::rule::TrustRule;
 
 // Why a panel does not open over a roll of that many places.
 fn refusal<R: TrustRule>(rule: &R, slots: u32, faulty: NodeSet, places: usize) -> Option<Refusal>
-    ensures { result ≡ opening (record { trust = meaning rule.now; slots = slots; faulty = faulty.0 }) places }
+    ensures { result ≡ opening (record { trust = R.meaning rule.now; slots = slots; faulty = faulty.0 }) places }
 {
     if slots == 0 || slots > 16 {
         return Some(Refusal::SlotCount);
@@ -36,7 +36,7 @@ impl<'r, R: TrustRule> Panel<'r, R> {
         faulty: NodeSet,
         roll: &[V],
     ) -> Result<Panel<'r, R>, Refusal>
-        ensures { Opens V.ValueKind.values R.TrustRule.meaning rule.now slots faulty.0 (length roll.now) result }
+        ensures { Opens V.values R.meaning rule.now slots faulty.0 (length roll.now) result }
     {
         if let Some(refusal) = refusal(rule, slots, faulty, roll.len()) {
             return Err(refusal);

@@ -11,34 +11,34 @@ use trust::rule::TrustRule;
 impl<'r, R: TrustRule> Panel<'r, R> {
     // One of the rule's nodes.
     pub(super) fn is_node(&self, node: u32) -> bool
-        ensures { result ≡ node? (world_of meaning self.now).trust.size node }
+        ensures { result ≡ node? (world_of R.meaning self.now).trust.size node }
     {
         node >= 1 && node <= self.rule.size()
     }
 
     // One of the rule's nodes, and not faulty.
     pub(super) fn is_correct(&self, node: u32) -> bool
-        ensures { result ≡ correct (world_of meaning self.now) node }
+        ensures { result ≡ correct (world_of R.meaning self.now) node }
     {
         self.is_node(node) && !self.faulty.has(Node(node))
     }
 
     pub(super) fn is_slot(&self, slot: u32) -> bool
-        ensures { result ≡ slot? (world_of meaning self.now) slot }
+        ensures { result ≡ slot? (world_of R.meaning self.now) slot }
     {
         slot < self.count
     }
 
     // The sender of a slot.
     pub(super) fn sender(&self, slot: u32) -> u32
-        ensures { result ≡ sender (world_of meaning self.now) slot }
+        ensures { result ≡ sender (world_of R.meaning self.now) slot }
     {
         slot % self.rule.size() + 1
     }
 
     // A kind, a slot and two nodes, all in range.
     pub(super) fn is_message(&self, kind: u32, slot: u32, from: u32, to: u32) -> bool
-        ensures { result ≡ message? (world_of meaning self.now) kind slot from to }
+        ensures { result ≡ message? (world_of R.meaning self.now) kind slot from to }
     {
         Kind::from_number(kind).is_some()
             && self.is_slot(slot)

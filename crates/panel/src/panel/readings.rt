@@ -17,7 +17,7 @@ use trust::rule::TrustRule;
 impl<'r, R: TrustRule> Panel<'r, R> {
     // Who takes part in a slot.
     pub(super) fn parties(&self, slot: u32) -> Parties
-        ensures { PartiesOf (setting (world_of meaning self.now) slot) result }
+        ensures { PartiesOf (setting (world_of R.meaning self.now) slot) result }
     {
         let size = self.rule.size();
         Parties {
@@ -29,7 +29,7 @@ impl<'r, R: TrustRule> Panel<'r, R> {
 
     // The place of the value that a node delivered in a slot.
     pub fn receipt(&self, slot: u32, node: u32) -> Result<Option<Place>, Refusal>
-        ensures { result ≡ receipt (world_of meaning self.now) self.now.board.slots slot node }
+        ensures { result ≡ receipt (world_of R.meaning self.now) self.now.board.slots slot node }
     {
         if slot >= self.count || !self.is_node(node) {
             return Err(Refusal::NoSuch);
@@ -42,7 +42,7 @@ impl<'r, R: TrustRule> Panel<'r, R> {
 
     // The five counts of a slot.
     pub fn counts(&self, slot: u32) -> Result<Counts, Refusal>
-        ensures { result ≡ counts (world_of meaning self.now) self.now.board.slots slot }
+        ensures { result ≡ counts (world_of R.meaning self.now) self.now.board.slots slot }
     {
         if slot >= self.count {
             return Err(Refusal::NoSuch);
@@ -60,7 +60,7 @@ impl<'r, R: TrustRule> Panel<'r, R> {
         node: u32,
         account: u16,
     ) -> Result<(u32, u32), Refusal>
-        ensures { (row : List V) → Carries self.now.board.used row roll.now → result ≡ tally values (world_of meaning self.now) (length roll.now) (state_of self.now row) node account }
+        ensures { (row : List V) → Carries self.now.board.used row roll.now → result ≡ tally V.values (world_of R.meaning self.now) (length roll.now) (state_of self.now row) node account }
     {
         if self.is_roll_unfit(roll.len()) {
             return Err(Refusal::RollSize);

@@ -12,7 +12,7 @@ use trust::rule::TrustRule;
 impl<'r, R: TrustRule> Panel<'r, R> {
     // Makes a call.
     fn make<V: ValueKind + Copy>(&mut self, roll: &mut [V], call: Call<V>) -> Answer
-        ensures { Does V.ValueKind.values R.TrustRule.meaning self.old roll.old call result self.new roll.new }
+        ensures { Does V.values R.meaning self.old roll.old call result self.new roll.new }
     {
         match call {
             Call::Propose { slot, value } => self.propose(roll, slot, value),
@@ -35,10 +35,10 @@ impl<'r, R: TrustRule> Panel<'r, R> {
     // Makes every call of the list, in order, and writes its answer beside it. What is promised after every list of calls stands here,
     // and with it the laws of every history.
     pub fn run<V: ValueKind + Copy>(&mut self, roll: &mut [V], log: &mut [Entry<V>])
-        ensures plays { Plays V.ValueKind.values R.TrustRule.meaning self.old roll.old log.old self.new roll.new log.new }
-        ensures promise { Promises V.ValueKind.values R.TrustRule.meaning self.old roll.old self.new roll.new log.new }
-        ensures laws { AllHold (theorems V.ValueKind.values) }
-        ensures further { AllHold (further_theorems V.ValueKind.values) }
+        ensures plays { Plays V.values R.meaning self.old roll.old log.old self.new roll.new log.new }
+        ensures promise { Promises V.values R.meaning self.old roll.old self.new roll.new log.new }
+        ensures laws { AllHold (theorems V.values) }
+        ensures further { AllHold (further_theorems V.values) }
     {
         for i in 0..log.len() {
             let call = log[i].call;

@@ -5,4 +5,4 @@ use Rattle.panel.proofs.roll.find.Goals as goal
 
 pub returns-then-roll-used : goal.returns-then-roll-used
 returns-then-roll-used g c =
-    c.find-in.ensures ∙ ap (λ r. known_in g.V.ValueKind.values r c.args.value.now) (sym (take_all c.args.used c.args.roll.now c.if-roll-used.true))
+    c.find_in.ensures ∙ ap (λ r. known_in g.V.ValueKind.values r c.args.value.now) (sym (take_all c.args.used c.args.roll.now c.if-roll-used.true))

@@ -5,8 +5,8 @@ use Rattle.sets.specs.Sets.{set?}
 use Rattle.reports.specs.Guilds.{row_of, rows_to}
 use Rattle.reports.proofs.guilds.table.Goals as goal
 
-pub add-row-requires-in-loop-k : goal.add-row-requires-in-loop-k
-add-row-requires-in-loop-k g c =
+pub add_row-requires-in-loop-k : goal.add_row-requires-in-loop-k
+add_row-requires-in-loop-k g c =
     let n = (g.R.TrustRule.meaning c.args.rule.now).size in
     let k = c.loop-k.k in
     ap (set? n) c.single.ensures ∙ lt-ltb (2 ^ k) (2 ^ n) (pow-lt (omega (arith, c.size-k-end.ensures)))
@@ -14,10 +14,10 @@ add-row-requires-in-loop-k g c =
 pub loop-k-init : goal.loop-k-init
 loop-k-init g c =
     let t = g.R.TrustRule.meaning c.args.rule.now in
-    c.in-ok-add-row.ensures ∙ ap (λ bs. bs ++ row_of t 0) c.in-ok-out.ensures.ok
+    c.in-ok-add_row.ensures ∙ ap (λ bs. bs ++ row_of t 0) c.in-ok-out.ensures.ok
 
 pub loop-k-preserved : goal.loop-k-preserved
 loop-k-preserved g c =
     let t = g.R.TrustRule.meaning c.args.rule.now in
     let k = c.loop-k.k in
-    c.in-ok-add-row-2.ensures ∙ ap₂ (λ bs f. bs ++ row_of t f) c.loop-k.invariant c.single.ensures ∙ ap (rows_to t) (sym (add-one k))
+    c.in-ok-add_row-2.ensures ∙ ap₂ (λ bs f. bs ++ row_of t f) c.loop-k.invariant c.single.ensures ∙ ap (rows_to t) (sym (add-one k))

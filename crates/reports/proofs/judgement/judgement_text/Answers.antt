@@ -12,5 +12,5 @@ returns c =
       c.judge-judgement.ensures,
       is ∙ ap (λ (answer : List ℕ). codes "B3: " ++ (pair_bytes j.b3 ++ ((10 ∷ codes "consistency: ") ++ (pair_bytes j.consistency
           ++ ((10 ∷ codes "availability: ") ++ (node_bytes j.availability ++ ((10 ∷ codes "sound: ") ++ (answer ++ (10 ∷ [])))))))))
-          (c.yes-or-no-sound.ensures ∙ ap yes_bytes c.sound.ensures),
+          (c.yes_or_no-sound.ensures ∙ ap yes_bytes c.sound.ensures),
     )) c.format.ensures.ok

@@ -7,7 +7,7 @@ use Rattle.text.proofs.fields.after_field.Goals as goal
 pub returns-then-end-bytes : goal.returns-then-end-bytes
 returns-then-end-bytes c =
     let xs = c.args.bytes.now in
-    let end = c.run-before-end.result in
-    let e : run_before 9 xs ≡ end = sym c.run-before-end.ensures.0 in
+    let end = c.run_before-end.result in
+    let e : run_before 9 xs ≡ end = sym c.run_before-end.ensures.0 in
     ap (λ k. mathlib.Core.Bool.cond (ltb k (length xs)) (Some (drop (k + 1) xs)) None) e
     ∙ cond-true (ltb end (length xs)) _ _ (lt-ltb end (length xs) c.if-end-bytes.true) ∙ ap Some (sym (take_rest xs (end + 1)))

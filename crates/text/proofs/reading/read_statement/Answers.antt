@@ -13,9 +13,9 @@ returns-in-Err c =
     let text = c.args.text.now in
     let at = c.loop-line.reader.at in
     let line : LineOf = record { bytes = c.in-Some.line.bytes.now; ended = c.in-Some.line.ended } in
-    let next : NextLine text at line c.next-line.new.self.at = subst (λ t. NextLine t at line c.next-line.new.self.at) i.0 found.0 in (
-      subst (λ k. Refuses text c.in-Err.refusal c.next-line.new.self.line k line.bytes) (sym found.1)
-          (stopped text before at so_far line c.next-line.new.self.at c.in-Err.refusal c.next-line.new.self.line next (c.in-Err.ensures before kept).0 (omega (arith, found.2, line_is))),
+    let next : NextLine text at line c.next_line.new.self.at = subst (λ t. NextLine t at line c.next_line.new.self.at) i.0 found.0 in (
+      subst (λ k. Refuses text c.in-Err.refusal c.next_line.new.self.line k line.bytes) (sym found.1)
+          (stopped text before at so_far line c.next_line.new.self.at c.in-Err.refusal c.next_line.new.self.line next (c.in-Err.ensures before kept).0 (omega (arith, found.2, line_is))),
       refl,
     )
 
@@ -28,12 +28,12 @@ loop-line-preserved c =
     let text = c.args.text.now in
     let at = c.loop-line.reader.at in
     let line : LineOf = record { bytes = c.in-Some.line.bytes.now; ended = c.in-Some.line.ended } in
-    let next : NextLine text at line c.next-line.new.self.at = subst (λ t. NextLine t at line c.next-line.new.self.at) i.0 found.0 in
+    let next : NextLine text at line c.next_line.new.self.at = subst (λ t. NextLine t at line c.next_line.new.self.at) i.0 found.0 in
     let (r, says, kept') = c.in-default-take.ensures before kept in (
       ap (λ t. t.now) text_is ∙ i.0,
       next.within,
       omega (arith, found.2, next.on, i.2),
-      (r ∷ before, kept', omega (arith, found.2, line_is), walked_on text before at so_far line c.next-line.new.self.at r next says),
+      (r ∷ before, kept', omega (arith, found.2, line_is), walked_on text before at so_far line c.next_line.new.self.at r next says),
     )
 
 pub returns-in-Ok : goal.returns-in-Ok

@@ -4,8 +4,8 @@ use Rattle.sets.specs.Lists.{all_of}
 use Rattle.sets.proofs.Lists.{broken, held}
 use Rattle.trust.proofs.lists.is_available.Goals as goal
 
-pub returns-then-all-meet : goal.returns-then-all-meet
-returns-then-all-meet c = broken c.args.fails.now (λ x. not (all_of c.args.quorums.now (λ q. meets q x))) c.loop-f.f-index c.loop-f-test.true (ap not c.if-all-meet.ensures)
+pub returns-then-all_meet : goal.returns-then-all_meet
+returns-then-all_meet c = broken c.args.fails.now (λ x. not (all_of c.args.quorums.now (λ q. meets q x))) c.loop-f.f-index c.loop-f-test.true (ap not c.if-all_meet.ensures)
 
 pub loop-f-preserved : goal.loop-f-preserved
 loop-f-preserved c = below_more _ _ c.loop-f.invariant (sym (ap not c.if-all_meet.ensures))

@@ -9,14 +9,14 @@ use Rattle.trust.proofs.lists.leaves_open.Goals as goal
 open_at : (fs gs : List ℕ) (n u v r : ℕ) (b : Bool) → n ≤ 16 → r ≡ rest (min n 16) u → u ≡ v → b ≡ both_part? fs gs r → not b ≡ leaves_open? n fs gs v
 open_at fs gs n u v r b le is e both = ap not (both ∙ ap (both_part? fs gs) (is ∙ ap₂ rest (omega arith) e))
 
-pub returns-then-both-tolerate : goal.returns-then-both-tolerate
-returns-then-both-tolerate c =
+pub returns-then-both_tolerate : goal.returns-then-both_tolerate
+returns-then-both_tolerate c =
     let fs = c.args.ours.now in
     let gs = c.args.theirs.now in
     let n = c.args.n in
     let a = c.args.a.0 in
     broken gs (λ b. leaves_open? n fs gs (bit_or a b)) c.loop-b.b-index c.loop-b-test.true
-    (open_at fs gs n c.union.result.0 (bit_or a (get_or gs c.loop-b.b-index 0)) c.rest-within.result.0 true c.requires c.rest-within.ensures.value c.union.ensures.value c.if-both-tolerate.ensures)
+    (open_at fs gs n c.union.result.0 (bit_or a (get_or gs c.loop-b.b-index 0)) c.rest_within.result.0 true c.requires c.rest_within.ensures.value c.union.ensures.value c.if-both_tolerate.ensures)
 
 pub loop-b-preserved : goal.loop-b-preserved
 loop-b-preserved c =

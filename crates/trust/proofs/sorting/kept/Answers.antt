@@ -11,7 +11,7 @@ loop-k-init g c = refl
 pub loop-k-preserved : goal.loop-k-preserved
 loop-k-preserved g c = one_more c.loop-k.k _ (keep? (g.R.TrustRule.meaning c.args.rule.now) c.args.set.0) _ _ c.loop-k.invariant c.stays.ensures c.with_next-rest.ensures
 
-pub with-next-rest-requires : goal.with-next-rest-requires
-with-next-rest-requires g c =
+pub with_next-rest-requires : goal.with_next-rest-requires
+with_next-rest-requires g c =
     let law = g.met.R.TrustRule.sized c.args.rule.now in
     (omega (arith, c.size-size.ensures), omega (arith, nodes_with_lt c.loop-k.k (keep? (g.R.TrustRule.meaning c.args.rule.now) c.args.set.0)))

@@ -21,13 +21,13 @@ loop-k-preserved g c =
       one_more c.loop-k.k _ (naive? t f) _ _ c.loop-k.invariant.1 c.is_naive.ensures c.with_next-naive.ensures,
     )
 
-pub with-next-wise-requires : goal.with-next-wise-requires
-with-next-wise-requires g c =
+pub with_next-wise-requires : goal.with_next-wise-requires
+with_next-wise-requires g c =
     let law = g.met.R.TrustRule.sized c.args.rule.now in
     (omega (arith, c.size-size.ensures), omega (arith, nodes_with_lt c.loop-k.k (wise? (g.R.TrustRule.meaning c.args.rule.now) c.args.faulty.0)))
 
-pub with-next-naive-requires : goal.with-next-naive-requires
-with-next-naive-requires g c =
+pub with_next-naive-requires : goal.with_next-naive-requires
+with_next-naive-requires g c =
     let law = g.met.R.TrustRule.sized c.args.rule.now in
     (omega (arith, c.size-size.ensures), omega (arith, nodes_with_lt c.loop-k.k (naive? (g.R.TrustRule.meaning c.args.rule.now) c.args.faulty.0)))
 

@@ -2,7 +2,7 @@ use Rattle.std.proofs.Common.{arith}
 use Rattle.panel.specs.Boards.{state_on}
 use Rattle.panel.proofs.Tallies.{tally_none, tally_all, tally_other, tally_counted, tally_left_out}
 use Rattle.panel.proofs.board.Board.tally.Goals as goal
-use Rattle.panel.proofs.board.Board.tally.Goals.{then-is-of+then-is-counted, then-is-of+else-is-counted, else-is-of}
+use Rattle.panel.proofs.board.Board.tally.Goals.{then-is-of+then-is_counted, then-is-of+else-is_counted, else-is_of}
 
 pub loop-slot-init : goal.loop-slot-init
 loop-slot-init g c =
@@ -15,24 +15,24 @@ loop-slot-preserved g c =
     let i = c.loop-slot.slot in
     let m = c.loop-slot.counted in
     let n = c.loop-slot.left_out in
-    let k = c.if-is-of.counted in
-    let l = c.if-is-of.left_out in
-    let of = c.is-of in
-    elim c.if-is-of.branch [
-      | then-is-of+then-is-counted w ↦ (
-        tally_counted values x c.args.node.0 c.args.account i m n k l c.loop-slot.invariant.0 of.result of.ensures w.is-counted.result w.is-counted.ensures w.if-is-of.true w.if-is-counted.true w.counted-is w.left-out-is,
+    let k = c.if-is_of.counted in
+    let l = c.if-is_of.left_out in
+    let of = c.is_of in
+    elim c.if-is_of.branch [
+      | then-is-of+then-is_counted w ↦ (
+        tally_counted values x c.args.node.0 c.args.account i m n k l c.loop-slot.invariant.0 of.result of.ensures w.is_counted.result w.is_counted.ensures w.if-is_of.true w.if-is_counted.true w.counted-is w.left_out-is,
         omega (arith, w.counted-is),
-        omega (arith, w.left-out-is),
+        omega (arith, w.left_out-is),
       )
-      | then-is-of+else-is-counted w ↦ (
-        tally_left_out values x c.args.node.0 c.args.account i m n k l c.loop-slot.invariant.0 of.result of.ensures w.is-counted.result w.is-counted.ensures w.if-is-of.true w.if-is-counted.false w.counted-is w.left-out-is,
+      | then-is-of+else-is_counted w ↦ (
+        tally_left_out values x c.args.node.0 c.args.account i m n k l c.loop-slot.invariant.0 of.result of.ensures w.is_counted.result w.is_counted.ensures w.if-is_of.true w.if-is_counted.false w.counted-is w.left_out-is,
         omega (arith, w.counted-is),
-        omega (arith, w.left-out-is),
+        omega (arith, w.left_out-is),
       )
-      | else-is-of w ↦ (
-        tally_other values x c.args.node.0 c.args.account i m n k l c.loop-slot.invariant.0 of.result of.ensures w.if-is-of.false w.counted-is w.left-out-is,
+      | else-is_of w ↦ (
+        tally_other values x c.args.node.0 c.args.account i m n k l c.loop-slot.invariant.0 of.result of.ensures w.if-is_of.false w.counted-is w.left_out-is,
         omega (arith, w.counted-is),
-        omega (arith, w.left-out-is),
+        omega (arith, w.left_out-is),
       )
     ]
 

@@ -6,5 +6,5 @@ use Rattle.panel.proofs.board.Board.tally.Given as goal
 abbrev pub invariant-loop-slot : goal.invariant-loop-slot
 invariant-loop-slot g l =
     let values = g.V.ValueKind.values in
-    ((l.counted, l.left-out) ≡ tally_of values (of_slots l.slot) (state_on l.self l.row) l.node.0 l.account)
-    × (l.counted ≤ l.slot) × (l.left-out ≤ l.slot)
+    ((l.counted, l.left_out) ≡ tally_of values (of_slots l.slot) (state_on l.self l.row) l.node.0 l.account)
+    × (l.counted ≤ l.slot) × (l.left_out ≤ l.slot)

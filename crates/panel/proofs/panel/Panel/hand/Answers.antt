@@ -18,12 +18,12 @@ returns g c =
     let k = c.args.to in
     let place = c.in-Some.place in
     let after : Heard × List Slot = hears_in w b s (kind n) i k place in
-    let said : c.hear.result ≡ after.0 = c.hear.ensures.said ∙ same_heard w b b s i k (kind n) c.kind-of-kind.result c.sender.result place place refl c.kind-of-kind.ensures c.sender.ensures refl in
-    let board : c.hear.new.self.slots ≡ after.1 = c.hear.ensures.slots p.faulty.0 ∙ same_board w b b s i k (kind n) c.kind-of-kind.result c.sender.result place place refl c.kind-of-kind.ensures c.sender.ensures refl in
+    let said : c.hear.result ≡ after.0 = c.hear.ensures.said ∙ same_heard w b b s i k (kind n) c.kind_of-kind.result c.sender.result place place refl c.kind_of-kind.ensures c.sender.ensures refl in
+    let board : c.hear.new.self.slots ≡ after.1 = c.hear.ensures.slots p.faulty.0 ∙ same_board w b b s i k (kind n) c.kind_of-kind.result c.sender.result place place refl c.kind_of-kind.ensures c.sender.ensures refl in
     record {
       same_world = refl;
       same_used = c.hear.ensures.used;
-      answers = hand_heard w b n s i k place (sym c.if-not-is-message.ensures) (sym c.if-not-is-correct.ensures) (sym c.if-not-is-correct-2.ensures)
-          (ap (λ m. waiting_in w b s m i k) (sym c.kind-of-kind.ensures) ∙ sym c.in-Some.ensures)
+      answers = hand_heard w b n s i k place (sym c.if-not-is_message.ensures) (sym c.if-not-is_correct.ensures) (sym c.if-not-is_correct-2.ensures)
+          (ap (λ m. waiting_in w b s m i k) (sym c.kind_of-kind.ensures) ∙ sym c.in-Some.ensures)
           ∙ ap₂ (λ h x. (Stepped h, x)) (sym said) (sym board);
     }

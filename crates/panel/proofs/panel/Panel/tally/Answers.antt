@@ -9,5 +9,5 @@ returns g c row carries =
     let values = g.V.ValueKind.values in
     let p = c.args.self.now in
     let e : c.tally.result ≡ tally_of values (world_of g.R.TrustRule.meaning p) (state_of p row) c.args.node c.args.account =
-    tally_carried values p.board row c.args.roll.now p.count c.args.node c.args.account c.tally.result c.if-is-roll-unfit.ensures carries c.tally.ensures in
+    tally_carried values p.board row c.args.roll.now p.count c.args.node c.args.account c.tally.result c.if-is_roll_unfit.ensures carries c.tally.ensures in
     search rules

@@ -6,4 +6,4 @@ pub returns-then-self-eq0 : goal.returns-then-self-eq0
 returns-then-self-eq0 c = λ before kept. cond-true _ _ _ (nothing_said c.args.self.now before kept c.if-self-eq0.true)
 
 pub returns : goal.returns
-returns c = λ before kept. finished c.args.self.now before kept c.if-self-eq0.false c.all-quorums.result c.all-quorums.ensures c.new.result c.new.ensures
+returns c = λ before kept. finished c.args.self.now before kept c.if-self-eq0.false c.all_quorums.result c.all_quorums.ensures c.new.result c.new.ensures

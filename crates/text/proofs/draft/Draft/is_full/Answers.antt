@@ -3,8 +3,8 @@ use Rattle.text.specs.Reading.{in_range?, in_order?}
 use Rattle.text.proofs.Records.{entry_fits}
 use Rattle.text.proofs.draft.Draft.is_full.Goals as goal
 
-pub family-of-requires : goal.family-of-requires
-family-of-requires c =
+pub family_of-requires : goal.family_of-requires
+family_of-requires c =
     let d = c.args.self.now in
     let is = c.in-Listed.is in
     let (low, high, _) = entry_fits d.nodes d.newest c.in-Listed.e d.counted.0 d.counted.1

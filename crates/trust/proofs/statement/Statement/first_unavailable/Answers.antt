@@ -9,10 +9,10 @@ pub loop-k-init : goal.loop-k-init
 unfolding first_node
 loop-k-init c = refl
 
-pub returns-then-not-is-available-node : goal.returns-then-not-is-available-node
-returns-then-not-is-available-node c =
+pub returns-then-not-is_available_node : goal.returns-then-not-is_available_node
+returns-then-not-is_available_node c =
     let x = c.args.self.now in
-    node_failed x.nodes (available (meant x)) c.loop-k.k c.loop-k.invariant (omega arith) c.if-not-is-available-node.ensures
+    node_failed x.nodes (available (meant x)) c.loop-k.k c.loop-k.invariant (omega arith) c.if-not-is_available_node.ensures
 
 pub loop-k-preserved : goal.loop-k-preserved
 loop-k-preserved c =

@@ -8,10 +8,10 @@ pub loop-j-init : goal.loop-j-init
 unfolding first_node
 loop-j-init c = refl
 
-pub returns-then-not-meets-demand : goal.returns-then-not-meets-demand
-returns-then-not-meets-demand c =
+pub returns-then-not-meets_demand : goal.returns-then-not-meets_demand
+returns-then-not-meets_demand c =
     let x = c.args.self.now in
-    node_failed x.nodes (demanded c.args.demand (meant x) (suc c.args.k)) c.loop-j.j c.loop-j.invariant (omega arith) c.if-not-meets-demand.ensures
+    node_failed x.nodes (demanded c.args.demand (meant x) (suc c.args.k)) c.loop-j.j c.loop-j.invariant (omega arith) c.if-not-meets_demand.ensures
 
 pub loop-j-preserved : goal.loop-j-preserved
 loop-j-preserved c =

@@ -5,20 +5,20 @@ use Rattle.trust.proofs.Fresh.{lone_range, lone_some, lone_sound}
 use Rattle.trust.proofs.Witnessed.{witnessed}
 use Rattle.trust.proofs.statement.Statement.fresh.Goals as goal
 
-pub invariant-of-result : goal.invariant-of-result
+pub invariant_of-result : goal.invariant_of-result
 unfolding all_of
-invariant-of-result c =
-    let fails = c.only-first.result in
-    let quorums = c.only-first-2.result in (
-      (
+invariant_of-result c =
+    let fails = c.only_first.result in
+    let quorums = c.only_first-2.result in
+    record {
+      ok = (
         omega arith,
         omega arith,
-        lone_range fails (0 ∷ []) c.only-first.ensures refl,
-        lone_range quorums (1 ∷ []) c.only-first-2.ensures refl,
-        lone_some fails 0 c.only-first.ensures,
-      ),
-      tt,
-    )
+        lone_range fails (0 ∷ []) c.only_first.ensures refl,
+        lone_range quorums (1 ∷ []) c.only_first-2.ensures refl,
+        lone_some fails 0 c.only_first.ensures,
+      );
+    }
 
 pub returns : goal.returns
 returns c =

@@ -13,6 +13,6 @@ returns c =
     let x = c.args.self.now in
     let i = suc c.args.k in
     let j = suc c.args.j in
-    pair_at c.is_consistent.result c.sets_at.result.now c.sets_at-2.result.now c.sets-at-3.result.now c.sets-at-4.result.now (fail_sets x i) (fail_sets x j) (quorum_sets x i) (quorum_sets x j)
-    c.is_consistent.ensures c.sets_at.ensures c.sets_at-2.ensures c.sets-at-3.ensures c.sets-at-4.ensures
+    pair_at c.is_consistent.result c.sets_at.result.now c.sets_at-2.result.now c.sets_at-3.result.now c.sets_at-4.result.now (fail_sets x i) (fail_sets x j) (quorum_sets x i) (quorum_sets x j)
+    c.is_consistent.ensures c.sets_at.ensures c.sets_at-2.ensures c.sets_at-3.ensures c.sets_at-4.ensures
     ∙ sym (consistent_is x c.args.k c.args.j c.requires.0 c.requires.1)

@@ -5,11 +5,11 @@ use Rattle.trust.specs.Families.{at_node}
 use Rattle.trust.specs.Fitting.{some_each?}
 use Rattle.trust.proofs.statement.making.has_some_each.Goals as goal
 
-pub returns-then-is-empty : goal.returns-then-is-empty
+pub returns-then-is_empty : goal.returns-then-is_empty
 unfolding some_each?
-returns-then-is-empty c =
+returns-then-is_empty c =
     below_broken c.args.n (λ k. ltb 0 (length (at_node c.args.families.now (suc k)))) c.loop-k.k c.loop-k-test.true
-    (grind (arith, nat_tests, c.if-is-empty.ensures, ap length c.sets-at.ensures))
+    (grind (arith, nat_tests, c.if-is_empty.ensures, ap length c.sets_at.ensures))
 
 pub returns : goal.returns
 unfolding some_each?

@@ -3,13 +3,13 @@ use Rattle.trust.specs.Guards.{then_guard, else_guard}
 use Rattle.trust.specs.ThresholdQuestions.{tolerates_is}
 use Rattle.trust.proofs.threshold.ThresholdTrustRule.tolerated.Goals as goal
 
-pub returns-then-in-range : goal.returns-then-in-range
-returns-then-in-range c =
+pub returns-then-in_range : goal.returns-then-in_range
+returns-then-in_range c =
     let x = c.args.self.now in
     ap (λ k. leb k x.f) c.count.ensures.value
-    ∙ then_guard _ _ _ _ c.in-range.ensures c.if-in-range.true (tolerates_is x.n x.f x.q c.args.node.0 c.args.set.0)
+    ∙ then_guard _ _ _ _ c.in_range.ensures c.if-in_range.true (tolerates_is x.n x.f x.q c.args.node.0 c.args.set.0)
 
-pub returns-else-in-range : goal.returns-else-in-range
-returns-else-in-range c =
+pub returns-else-in_range : goal.returns-else-in_range
+returns-else-in_range c =
     let x = c.args.self.now in
-    else_guard _ _ _ _ c.in-range.ensures c.if-in-range.false (tolerates_is x.n x.f x.q c.args.node.0 c.args.set.0)
+    else_guard _ _ _ _ c.in_range.ensures c.if-in_range.false (tolerates_is x.n x.f x.q c.args.node.0 c.args.set.0)

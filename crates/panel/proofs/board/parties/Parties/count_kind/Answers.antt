@@ -10,7 +10,7 @@ loop-i-init c = (sum_none _, omega arith)
 pub loop-i-preserved : goal.loop-i-preserved
 loop-i-preserved c =
     let f = λ (i : ℕ). count c.args.self.size (met (setting_of c.args.self) c.args.slot.now c.args.fate c.args.kind i) in
-    (sum_more f c.loop-i.n c.loop-i.i c.count-from-n.result c.loop-i.invariant.0 c.count-from-n.ensures.value, omega arith)
+    (sum_more f c.loop-i.n c.loop-i.i c.count_from-n.result c.loop-i.invariant.0 c.count_from-n.ensures.value, omega arith)
 
 pub returns : goal.returns
 returns c = record { value = at_end _ c.loop-i.invariant.0 c.loop-i.auto.i-end c.loop-i-test.false; bound = omega arith }

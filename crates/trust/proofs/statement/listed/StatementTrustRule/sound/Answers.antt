@@ -9,6 +9,6 @@ returns-in-FirstFailing c = unsound_node (meant c.args.self.now) c.in-FirstFaili
 pub returns-in-All : goal.returns-in-All
 returns-in-All c = sym ((sound_is (meant c.args.self.now)).1 (sym c.in-All.ensures, sym c.in_default.ensures))
 
-pub returns-in-FirstFailing-first-failing : goal.returns-in-FirstFailing-first-failing
-returns-in-FirstFailing-first-failing c =
-    unsound_pair (meant c.args.self.now) c.in-FirstFailing-first-failing.field-0 c.in-FirstFailing-first-failing.field-1 c.in-FirstFailing-first-failing.ensures
+pub returns-in-FirstFailing-first_failing : goal.returns-in-FirstFailing-first_failing
+returns-in-FirstFailing-first_failing c =
+    unsound_pair (meant c.args.self.now) c.in-FirstFailing-first_failing.field-0 c.in-FirstFailing-first_failing.field-1 c.in-FirstFailing-first_failing.ensures
