@@ -29,7 +29,7 @@ loop-line-preserved c =
     let at = c.loop-line.reader.at in
     let line : LineOf = record { bytes = c.in-Some.line.bytes.now; ended = c.in-Some.line.ended } in
     let next : NextLine text at line c.next_line.new.self.at = subst (λ t. NextLine t at line c.next_line.new.self.at) i.0 found.0 in
-    let (r, says, kept') = c.in-default-take.ensures before kept in (
+    let (r, says, kept') = c.in_default-take.ensures before kept in (
       ap (λ t. t.now) text_is ∙ i.0,
       next.within,
       omega (arith, found.2, next.on, i.2),
@@ -40,14 +40,14 @@ pub returns-in-Ok : goal.returns-in-Ok
 returns-in-Ok c =
     let i = c.loop-line.invariant in
     let (before, kept, line_is, so_far) = i.3 in
-    let found = c.in-default.ensures.found in
+    let found = c.in_default.ensures.found in
     ended_well c.args.text.now before c.loop-line.reader.at so_far (omega (arith, found.1, ap length i.0)) c.in-Ok.read (c.in-Ok.ensures before kept)
 
 pub returns-in-Err-finish : goal.returns-in-Err-finish
 returns-in-Err-finish c =
     let i = c.loop-line.invariant in
     let (before, kept, line_is, so_far) = i.3 in
-    let found = c.in-default.ensures.found in
+    let found = c.in_default.ensures.found in
     let text = c.args.text.now in
     let none = take_rest text (length text) ∙ drop_all (length text) text (omega arith) in
     (ended_badly text before c.loop-line.reader.at so_far c.in-Err-finish.refusal _ _ (found.1 ∙ ap length i.0) (c.in-Err-finish.ensures before kept) (omega (arith, ap (λ r. r.line) found.0, line_is)) none, refl)

@@ -23,7 +23,7 @@ heeds-requires g c =
     let p = c.args.self.now in
     let w = world_of g.R.TrustRule.meaning p in
     let known = c.find-known.result in
-    let fits = forge_fits w (length c.args.roll.now) (state_of {V = g.row.V.Denot} p []) c.args.kind c.args.slot c.args.from c.args.to c.args.value c.fit.result c.fit.result known known refl (λ _. refl) c.in-default.ensures in
+    let fits = forge_fits w (length c.args.roll.now) (state_of {V = g.row.V.Denot} p []) c.args.kind c.args.slot c.args.from c.args.to c.args.value c.fit.result c.fit.result known known refl (λ _. refl) c.in_default.ensures in
     let (s, f, t) = message_parts w c.args.kind c.args.slot c.args.from c.args.to fits.1 in
     (s, (f, t))
 
@@ -36,14 +36,14 @@ returns-then-not-heeds g c =
     let left = ap (λ m. heeds_in w p.board.slots c.args.slot m c.args.from c.args.to) (sym c.kind_of-kind.ensures) ∙ sym c.if-not-heeds.ensures in
     unchanged values g.R.TrustRule.meaning p roll _ _ (λ row carries.
     forge_ignored w (length roll) (state_of p row) c.args.kind c.args.slot c.args.from c.args.to c.args.value c.fit.result _ c.find-known.result (known_in values row c.args.value) c.fit.ensures
-    (known_is values p.board.used row roll c.args.value c.find-known.result carries c.find-known.ensures) c.in-default.ensures left)
+    (known_is values p.board.used row roll c.args.value c.find-known.result carries c.find-known.ensures) c.in_default.ensures left)
 
 pub enter-place-requires : goal.enter-place-requires
 enter-place-requires g c =
     let p = c.args.self.now in
     let w = world_of g.R.TrustRule.meaning p in
     let known = c.find-known.result in
-    let fits = forge_fits w (length c.args.roll.now) (state_of {V = g.row.V.Denot} p []) c.args.kind c.args.slot c.args.from c.args.to c.args.value c.fit.result c.fit.result known known refl (λ _. refl) c.in-default.ensures in
+    let fits = forge_fits w (length c.args.roll.now) (state_of {V = g.row.V.Denot} p []) c.args.kind c.args.slot c.args.from c.args.to c.args.value c.fit.result c.fit.result known known refl (λ _. refl) c.in_default.ensures in
     let heeded = ap (λ m. heeds_in w p.board.slots c.args.slot m c.args.from c.args.to) (sym c.kind_of-kind.ensures) ∙ sym c.if-not-heeds.ensures in
     (few_places p.board.used (length c.args.roll.now) fits.0, ap (λ b. b && roll_full p.board.used (length c.args.roll.now) known) (sym heeded) ∙ fits.2)
 
@@ -52,7 +52,7 @@ hear-requires g c =
     let p = c.args.self.now in
     let w = world_of g.R.TrustRule.meaning p in
     let known = c.find-known.result in
-    let fits = forge_fits w (length c.args.roll.now) (state_of {V = g.row.V.Denot} p []) c.args.kind c.args.slot c.args.from c.args.to c.args.value c.fit.result c.fit.result known known refl (λ _. refl) c.in-default.ensures in
+    let fits = forge_fits w (length c.args.roll.now) (state_of {V = g.row.V.Denot} p []) c.args.kind c.args.slot c.args.from c.args.to c.args.value c.fit.result c.fit.result known known refl (λ _. refl) c.in_default.ensures in
     let (s, f, t) = message_parts w c.args.kind c.args.slot c.args.from c.args.to fits.1 in
     let (a, b, d) = in_board w c.args.slot c.args.to p.few (g.met.R.TrustRule.sized p.rule.now).1 s t in
     (a, (b, d))
@@ -66,7 +66,7 @@ returns g c =
     let known = c.find-known.result in
     let v = c.args.value in
     let place = place_of p.board.used known in
-    let fits = forge_fits w (length roll) (state_of {V = g.row.V.Denot} p []) c.args.kind c.args.slot c.args.from c.args.to v c.fit.result c.fit.result known known refl (λ _. refl) c.in-default.ensures in
+    let fits = forge_fits w (length roll) (state_of {V = g.row.V.Denot} p []) c.args.kind c.args.slot c.args.from c.args.to v c.fit.result c.fit.result known known refl (λ _. refl) c.in_default.ensures in
     let heeded = ap (λ m. heeds_in w p.board.slots c.args.slot m c.args.from c.args.to) (sym c.kind_of-kind.ensures) ∙ sym c.if-not-heeds.ensures in
     let after : Heard × List Slot = hears_in w p.board.slots c.args.slot (kind c.args.kind) c.args.from c.args.to place in
     let said : c.hear.result ≡ after.0 =
@@ -80,5 +80,5 @@ returns g c =
     (used_within p.board.used (length roll) fits.0) (ap (λ b. b && roll_full p.board.used (length roll) known) (sym heeded) ∙ fits.2)
     (λ row carries.
     forge_heard w (length roll) (state_of p row) c.args.kind c.args.slot c.args.from c.args.to v c.fit.result (values.fit (values.meaning v)) known (known_in values row v) c.fit.ensures
-    (known_is values p.board.used row roll v known carries c.find-known.ensures) c.in-default.ensures heeded
+    (known_is values p.board.used row roll v known carries c.find-known.ensures) c.in_default.ensures heeded
     ∙ ap (λ h. (Stepped h, entered (state_of p row) v known after.1)) (sym said))

@@ -30,7 +30,7 @@ returns-then-is_some g c =
     let roll = c.args.roll.now in
     unchanged values g.R.TrustRule.meaning p roll _ _ (λ row carries.
     already_proposed (world_of g.R.TrustRule.meaning p) (length roll) (state_of p row) c.args.slot c.args.value c.fit.result _ c.find-known.result (known_in values row c.args.value) c.fit.ensures
-    (known_is values p.board.used row roll c.args.value c.find-known.result carries c.find-known.ensures) c.in-default.ensures
+    (known_is values p.board.used row roll c.args.value c.find-known.result carries c.find-known.ensures) c.in_default.ensures
     (none_is (slot_at p.board.slots c.args.slot).proposal _ (c.is_some.ensures ∙ ap is_some c.proposal.ensures) ∙ ap not c.if-is_some.true))
 
 pub returns : goal.returns
@@ -43,10 +43,10 @@ returns g c =
     let s = c.args.slot in
     let w = world_of g.R.TrustRule.meaning p in
     let none = none_is (slot_at p.board.slots s).proposal _ (c.is_some.ensures ∙ ap is_some c.proposal.ensures) ∙ ap not c.if-is_some.false in
-    let fits = roll_fits w (length roll) (state_of {V = g.row.V.Denot} p []) s v c.fit.result c.fit.result known known refl (λ _. refl) c.in-default.ensures in
+    let fits = roll_fits w (length roll) (state_of {V = g.row.V.Denot} p []) s v c.fit.result c.fit.result known known refl (λ _. refl) c.in_default.ensures in
     enters values g.R.TrustRule.meaning p roll _ Proposed v known (with_proposal p.board.slots s (place_of p.board.used known)) _ _ refl
     (c.set_proposal.ensures.used ∙ c.enter-place.ensures.used)
     (c.set_proposal.ensures.slots ∙ ap₂ (λ b k. with_proposal b s k) c.enter-place.ensures.slots c.enter-place.ensures.place)
     c.enter-place.ensures.roll (used_within p.board.used (length roll) fits.0) fits.1
     (λ row carries. now_proposed w (length roll) (state_of p row) s v c.fit.result _ known (known_in values row v) c.fit.ensures
-    (known_is values p.board.used row roll v known carries c.find-known.ensures) c.in-default.ensures none)
+    (known_is values p.board.used row roll v known carries c.find-known.ensures) c.in_default.ensures none)

@@ -13,7 +13,7 @@ pub returns : goal.returns
 returns c = λ before kept.
     let d = c.args.self.now in
     let r = c.in-Some.next in
-    let free = sym c.in-default-refusal.ensures in (
+    let free = sym c.in_default-refusal.ensures in (
       r,
       line_comes_to before c.args.line.bytes.now c.args.line.ended r None c.if-not-line.false c.in-Some.ensures (sym (refusal_is d before kept r) ∙ free),
       kept_more d c.note.new.self before r kept free c.note.ensures,
