@@ -13,4 +13,4 @@ pub mod LawsArrivals
 pub mod LawsLater
 pub mod LawsRecord
 pub mod LawsProposal
-pub mod Theorems
+pub mod TableHolds

@@ -14,10 +14,10 @@ add_row-requires-in-loop-k g c =
 pub loop-k-init : goal.loop-k-init
 loop-k-init g c =
     let t = g.R.TrustRule.meaning c.args.rule.now in
-    c.in-ok-add_row.ensures ∙ ap (λ bs. bs ++ row_of t 0) c.in-ok-out.ensures.ok
+    c.in_ok-add_row.ensures ∙ ap (λ bs. bs ++ row_of t 0) c.in_ok-out.ensures.ok
 
 pub loop-k-preserved : goal.loop-k-preserved
 loop-k-preserved g c =
     let t = g.R.TrustRule.meaning c.args.rule.now in
     let k = c.loop-k.k in
-    c.in-ok-add_row-2.ensures ∙ ap₂ (λ bs f. bs ++ row_of t f) c.loop-k.invariant c.single.ensures ∙ ap (rows_to t) (sym (add-one k))
+    c.in_ok-add_row-2.ensures ∙ ap₂ (λ bs f. bs ++ row_of t f) c.loop-k.invariant c.single.ensures ∙ ap (rows_to t) (sym (add-one k))

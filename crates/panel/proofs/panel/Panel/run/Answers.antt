@@ -1,5 +1,5 @@
 use Rattle.std.proofs.Common.{sym, refl, ◌∙◌, arith}
-use Rattle.runs.proofs.Theorems.{all_hold, further_hold}
+use Rattle.runs.proofs.TableHolds.{all_hold, further_hold}
 use Rattle.panel.proofs.Playing.{plays_none, plays_turn, plays_all}
 use Rattle.panel.proofs.Promising.{promised}
 use Rattle.panel.proofs.panel.Panel.run.Goals as goal
