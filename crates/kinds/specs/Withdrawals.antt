@@ -1,5 +1,5 @@
 -- What a withdrawal means: its serial.
-use Rattle.std.specs.Prelude.{ℕ, ◌/◌, ◌^◌, not, ◌==◌}
+use Rattle.std.specs.Prelude.{ℕ, ◌/◌, ◌^◌, not, ◌==◌, nat_eq}
 use Rattle.std.proofs.lemmas.Bool.Decides.{Decides-eqb}
 use Rattle.runs.specs.Values.{Values}
 use Rattle.kinds.specs.declared.withdrawal.Withdrawal.{Withdrawal}
@@ -9,12 +9,12 @@ abbrev pub withdrawals : Values Withdrawal
 withdrawals = record {
   Meaning = ℕ;
   meaning = λ x. x.serial;
-  same = eqb;
+  same = nat_eq;
   same_is = Decides-eqb;
   fit = λ n. not (n == 0);
   Claim = ℕ;
   claim = λ n. n;
-  same_claim = eqb;
+  same_claim = nat_eq;
   same_claim_is = Decides-eqb;
   account = λ n. n / 2 ^ 48;
 }

@@ -66,7 +66,7 @@ impl Board {
         requires { (length roll.old ≤ 255) × (roll_full self.old.used (length roll.old) known ≡ false) }
         ensures place { result ≡ place_of self.old.used known }
         ensures slots { self.new.slots ≡ self.old.slots }
-        ensures used { self.new.used ≡ cond (absent known) (self.old.used + 1) self.old.used }
+        ensures used { self.new.used ≡ (if absent known then self.old.used + 1 else self.old.used) }
         ensures roll { roll.new ≡ (if absent known then slice_set roll.old self.old.used value else roll.old) }
     {
         match known {

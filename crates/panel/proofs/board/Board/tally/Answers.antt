@@ -2,7 +2,7 @@ use Rattle.std.proofs.Common.{arith}
 use Rattle.panel.specs.Boards.{state_on}
 use Rattle.panel.proofs.Tallies.{tally_none, tally_all, tally_other, tally_counted, tally_left_out}
 use Rattle.panel.proofs.board.Board.tally.Goals as goal
-use Rattle.panel.proofs.board.Board.tally.Goals.{then-is-of+then-is_counted, then-is-of+else-is_counted, else-is_of}
+use Rattle.panel.proofs.board.Board.tally.Goals.{then-is_of+then-is_counted, then-is_of+else-is_counted, else-is_of}
 
 pub loop-slot-init : goal.loop-slot-init
 loop-slot-init g c =
@@ -19,12 +19,12 @@ loop-slot-preserved g c =
     let l = c.if-is_of.left_out in
     let of = c.is_of in
     elim c.if-is_of.branch [
-      | then-is-of+then-is_counted w ↦ (
+      | then-is_of+then-is_counted w ↦ (
         tally_counted values x c.args.node.0 c.args.account i m n k l c.loop-slot.invariant.0 of.result of.ensures w.is_counted.result w.is_counted.ensures w.if-is_of.true w.if-is_counted.true w.counted-is w.left_out-is,
         omega (arith, w.counted-is),
         omega (arith, w.left_out-is),
       )
-      | then-is-of+else-is_counted w ↦ (
+      | then-is_of+else-is_counted w ↦ (
         tally_left_out values x c.args.node.0 c.args.account i m n k l c.loop-slot.invariant.0 of.result of.ensures w.is_counted.result w.is_counted.ensures w.if-is_of.true w.if-is_counted.false w.counted-is w.left_out-is,
         omega (arith, w.counted-is),
         omega (arith, w.left_out-is),
