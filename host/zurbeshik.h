@@ -1,7 +1,7 @@
 /* Zurbeshik for hosts written in C: which nodes are wise and which form the maximal guild.
  *
- * Link with the static library that `rt staticlib chost` writes to target/staticlib/libchost.a
- * and with what host/Makefile adds to it.
+ * Link with the static library that `tools/build chost` writes to crates/chost/out/libchost.a,
+ * as host/Makefile does.
  */
 #ifndef ZURBESHIK_H
 #define ZURBESHIK_H

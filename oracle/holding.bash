@@ -12,12 +12,10 @@ masks=0   # answers of the library
 differ=0
 
 build() { # the programs to build; the oracle and the library are built too
-    local kit
-    kit=$(dirname "$(dirname "$(rt doc)")")
     make -s -C "$top/oracle" oracle
-    (cd "$top" && rt check "$@" && rt staticlib chost) >"$dir/log" 2>&1 || { cat "$dir/log" >&2; exit 1; }
+    "$top/tools/build" chost "$@"
     cc -std=c99 -Wall -Wextra -Werror -O2 -I"$top/host" -o "$dir/library" "$top/oracle/library.c" \
-        "$top/target/staticlib/libchost.a" "$kit/lib/librattle_c.a"
+        "$top/crates/chost/out/libchost.a"
 }
 
 differs() { # what was run, and on what
@@ -35,7 +33,7 @@ hold_texts() { # seed, count
         name=$(basename "$text" .txt)
         for program in guilds judge; do
             "$oracle" "$program" <"$text" >"$dir/wanted"
-            "$top/target/bin/$program" <"$text" >"$dir/got" || echo "status $?" >>"$dir/got"
+            "$top/crates/$program/out/$program" <"$text" >"$dir/got" || echo "status $?" >>"$dir/got"
             outputs=$((outputs + 1))
             cmp -s "$dir/wanted" "$dir/got" || differs "$program" "text $name of seed $1"
         done
@@ -53,7 +51,7 @@ hold_trials() { # seed, count
     local had of_file word wrong
     "$oracle" trials "$1" "$2" >"$dir/trials"
     "$oracle" replay <"$dir/trials" >"$dir/wanted"
-    "$top/target/bin/trials" <"$dir/trials" >"$dir/got" || echo "status $?" >>"$dir/got"
+    "$top/crates/trials/out/trials" <"$dir/trials" >"$dir/got" || echo "status $?" >>"$dir/got"
     # The last line of the oracle's: C cases, A answers, D differ
     read -r had word of_file word < <(tail -n 1 "$dir/wanted")
     cases=$((cases + had))
