@@ -1,5 +1,5 @@
 -- One slot of a broadcast: who is correct, what each node has said, and which messages wait. Assumes nothing.
-use Rattle.std.specs.Prelude.{ℕ, ◌-◌, Bool, cond, not, ◌&&◌, [], set, None, Option, ◌==◌, slice_index_or, slice_set}
+use Rattle.std.specs.Prelude.{ℕ, ◌-◌, Bool, cond, not, ◌&&◌, [], None, Option, ◌==◌, slice_index_or, slice_set}
 use Rattle.sets.specs.Sets.{node?, has}
 use Rattle.trust.specs.Trust.{Trust}
 use Rattle.protocol.specs.Hearing.{absent, taken}

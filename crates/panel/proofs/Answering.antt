@@ -1,9 +1,8 @@
 -- What a call's code did, as the statement has it: the refusal by what is known, the state left as it was, a value entered.
-use Rattle.std.proofs.Common.{◌≡◌, ℕ, zero, suc, ◌+◌, ◌<◌, ◌≤◌, Bool, true, false, cond, not, ◌&&◌, ◌||◌, eqb, ltb, leb, List, [], ◌∷◌, ◌++◌, length, take, drop, set, Some, None, Option, sym, refl, ap, ◌∙◌, subst, ap₂, add-one, arith, length-set}
+use Rattle.std.proofs.Common.{◌≡◌, ℕ, ◌+◌, ◌<◌, ◌≤◌, false, cond, ◌||◌, eqb, ltb, List, [], ◌∷◌, ◌++◌, length, take, drop, set, Some, None, Option, sym, refl, ap, ◌∙◌, subst, ap₂, arith, length-set}
 use Rattle.std.proofs.lemmas.List.{take_all, take_more_set, length_push, drop-set-lt}
-use Rattle.std.proofs.lemmas.Bool.{leb-false, ltb-false, or_parts, cond-true, cond-false}
+use Rattle.std.proofs.lemmas.Bool.{leb-false, ltb-false, or_parts}
 use Rattle.trust.specs.declared.refusal.Refusal.{Refusal}
-use Rattle.trust.specs.Refusals.{first_of}
 use Rattle.trust.specs.Trust.{Trust}
 use Rattle.protocol.specs.Hearing.{absent}
 use Rattle.protocol.specs.declared.message.Place.{Place}
@@ -12,7 +11,7 @@ use Rattle.runs.specs.declared.call.Call.{Call}
 use Rattle.runs.specs.declared.call.Call.TheVariants.{Hand}
 use Rattle.runs.specs.declared.call.Answer.{Answer}
 use Rattle.runs.specs.Values.{Values}
-use Rattle.runs.specs.Calls.{World, State, known_in, roll_size, roll_full, entered, refuse_or, handed_on, answer}
+use Rattle.runs.specs.Calls.{known_in, roll_size, roll_full, entered, refuse_or, handed_on, answer}
 use Rattle.runs.specs.Promise.{CameAbout}
 use Rattle.runs.specs.Promise.CameAbout.{called}
 use Rattle.panel.specs.declared.panel.Panel.{Panel}

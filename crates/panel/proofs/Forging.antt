@@ -1,6 +1,6 @@
 -- A forged message by what the code found of its value, and a message handed over.
-use Rattle.std.proofs.Common.{◌≡◌, ℕ, ◌<◌, ◌≤◌, Bool, true, false, cond, not, ◌&&◌, ◌||◌, eqb, ltb, leb, List, [], ◌∷◌, set, is_some, Some, None, Option, sym, refl, ap, ◌∙◌, ap₂, arith}
-use Rattle.std.proofs.lemmas.Bool.{cond-true, cond-false, and_parts, not-false, or_parts, leb-true, ltb-true, ltb-false, and_from}
+use Rattle.std.proofs.Common.{◌≡◌, ℕ, ◌<◌, ◌≤◌, Bool, true, false, cond, not, ◌&&◌, ◌||◌, leb, List, [], ◌∷◌, set, is_some, Some, None, Option, sym, ap, ◌∙◌, ap₂, arith}
+use Rattle.std.proofs.lemmas.Bool.{and_parts, not-false, leb-true, ltb-true, and_from}
 use Rattle.trust.specs.declared.refusal.Refusal.{Refusal}
 use Rattle.trust.specs.declared.refusal.Refusal.TheVariants.{RollSize, NoSuch, WrongParty, Unfit, NotWaiting, RollFull}
 use Rattle.trust.specs.Refusals.{first_of}
@@ -9,7 +9,6 @@ use Rattle.protocol.specs.Hearing.{absent, hear}
 use Rattle.protocol.specs.Kinds.{kind_of}
 use Rattle.protocol.specs.declared.message.Place.{Place}
 use Rattle.protocol.specs.declared.message.Kind.{Kind}
-use Rattle.protocol.specs.declared.record.Heard.{Heard}
 use Rattle.protocol.specs.declared.record.Heard.TheVariants.{Ignored}
 use Rattle.protocol.specs.declared.slot.Slot.{Slot}
 use Rattle.broadcast.specs.Slots.{record_at}

@@ -1,5 +1,5 @@
 -- A list of calls, played one call further.
-use Rattle.std.proofs.Common.{◌≡◌, ℕ, ◌+◌, ◌-◌, ◌<◌, ◌≤◌, List, [], ◌∷◌, ◌++◌, map, length, get_or, take, drop, set, sym, refl, ap, ◌∙◌, subst, ap₂, arith}
+use Rattle.std.proofs.Common.{◌≡◌, ℕ, ◌+◌, ◌-◌, ◌<◌, ◌≤◌, List, [], ◌∷◌, ◌++◌, map, length, get_or, take, drop, set, sym, refl, ap, ◌∙◌, subst, arith}
 use Rattle.std.proofs.lemmas.List.{map_push, drop-drop, get_or-drop, take_more, take_more_set, take_all, drop-set-lt}
 use Rattle.trust.specs.Trust.{Trust}
 use Rattle.runs.specs.declared.call.Call.{Call}
@@ -8,7 +8,7 @@ use Rattle.runs.specs.declared.call.Entry.{Entry}
 use Rattle.runs.specs.Values.{Values}
 use Rattle.runs.specs.Calls.{World, State, answer}
 use Rattle.panel.specs.declared.panel.Panel.{Panel}
-use Rattle.panel.specs.Views.{world_of, state_of, Carries, Does}
+use Rattle.panel.specs.Views.{world_of, state_of, Does}
 use Rattle.panel.specs.Playing.{played, call_of, answer_of, Plays}
 
 -- one call more

@@ -1,5 +1,5 @@
 -- What was played came about, so the promise holds of it.
-use Rattle.std.proofs.Common.{◌≡◌, ℕ, List, [], ◌∷◌, map, length, sym, refl, ap, ◌∙◌, subst, ap₂}
+use Rattle.std.proofs.Common.{◌≡◌, ℕ, List, [], ◌∷◌, map, length, sym, ap, ◌∙◌, subst, ap₂}
 use Rattle.trust.specs.Trust.{Trust}
 use Rattle.runs.specs.declared.call.Answer.{Answer}
 use Rattle.runs.specs.declared.call.Entry.{Entry}
@@ -9,7 +9,7 @@ use Rattle.runs.specs.Promise.{History, CameAbout}
 use Rattle.runs.specs.Promise.CameAbout.{called}
 use Rattle.runs.proofs.Promised.{kept}
 use Rattle.panel.specs.declared.panel.Panel.{Panel}
-use Rattle.panel.specs.Views.{world_of, state_of, Carries}
+use Rattle.panel.specs.Views.{world_of, state_of}
 use Rattle.panel.specs.Playing.{played, call_of, answer_of, Plays, logged, Promises}
 
 -- a list played from a state that came about

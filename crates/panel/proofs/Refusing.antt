@@ -1,5 +1,5 @@
 -- A list of conditions of which none holds, and lists that agree but for what is known of a value.
-use Rattle.std.proofs.Common.{◌≡◌, ℕ, Bool, true, false, List, [], ◌∷◌, Some, None, refl, arith}
+use Rattle.std.proofs.Common.{◌≡◌, ℕ, Bool, true, false, List, [], ◌∷◌, None, refl, arith}
 use Rattle.trust.specs.declared.refusal.Refusal.{Refusal}
 use Rattle.trust.specs.Refusals.{first_of}
 

@@ -1,13 +1,12 @@
 -- A panel and its roll as the statements see them, and what each public call owes.
-use Rattle.std.specs.Prelude.{◌≡◌, ℕ, ◌≤◌, List, [], ◌∷◌, map, length, take, drop, Some, None, Ok, Err, Option, Result}
+use Rattle.std.specs.Prelude.{◌≡◌, ℕ, ◌≤◌, List, [], ◌∷◌, length, take, drop, Some, None, Ok, Err, Option, Result}
 use Rattle.trust.specs.declared.refusal.Refusal.{Refusal}
 use Rattle.trust.specs.Trust.{Trust}
 use Rattle.runs.specs.declared.call.Call.{Call}
 use Rattle.runs.specs.declared.call.Answer.{Answer}
-use Rattle.runs.specs.declared.call.Entry.{Entry}
 use Rattle.runs.specs.Values.{Values}
 use Rattle.runs.specs.Calls.{World, State, opening, fresh, hand, answer}
-use Rattle.runs.specs.Promise.{History, CameAbout, Assured}
+use Rattle.runs.specs.Promise.{History, CameAbout}
 use Rattle.panel.specs.declared.panel.Panel.{Panel}
 
 abbrev pub world_of : {R : Type 0} → (R → Trust) → Panel R → World

@@ -1,5 +1,5 @@
 -- What a node does with a message, from its record and the message together. Assumes nothing.
-use Rattle.std.specs.Prelude.{ℕ, ◌-◌, Bool, true, false, cond, ◌&&◌, List, set, Some, None, Option, ◌==◌, slice_index_or, slice_set}
+use Rattle.std.specs.Prelude.{ℕ, ◌-◌, Bool, true, false, cond, ◌&&◌, List, Some, None, Option, ◌==◌, slice_index_or, slice_set}
 use Rattle.sets.specs.Sets.{node?, nodes_with}
 use Rattle.trust.specs.Trust.{Trust, holds_quorum, holds_kernel}
 use Rattle.protocol.specs.declared.message.Place.{Place}

@@ -8,9 +8,9 @@ use Rattle.protocol.specs.declared.slot.Slot.{Slot}
 use Rattle.runs.specs.declared.call.Call.{Call}
 use Rattle.runs.specs.declared.call.Call.TheVariants.{Propose, Forge, Hand}
 use Rattle.runs.specs.declared.call.Answer.{Answer}
-use Rattle.runs.specs.declared.call.Answer.TheVariants.{Proposed, Refused}
+use Rattle.runs.specs.declared.call.Answer.TheVariants.{Refused}
 use Rattle.runs.specs.Values.{Values}
-use Rattle.runs.specs.Calls.{World, State, no_slot, slot_at, entered, with_proposal, fresh, answer}
+use Rattle.runs.specs.Calls.{World, State, no_slot, slot_at, entered, with_proposal, answer}
 use Rattle.runs.specs.Readings.{meant_at}
 use Rattle.runs.specs.Promise.{History, CameAbout, opened, called, offered}
 use Rattle.runs.specs.Laws.{proposed_by, proposed_in, as_list, ProposalLaw, PlaceLaw}
@@ -18,7 +18,7 @@ use Rattle.runs.proofs.Moves.{Moves, refuses, repeats, offers, ignores, forges, 
 use Rattle.runs.proofs.Boards.{entered_board}
 use Rattle.runs.proofs.Rows.{Grows, grows, grows_keeps, entered_means}
 use Rattle.runs.proofs.Standing.{Each, replicate_each}
-use Rattle.runs.proofs.Invariants.{Opens, opens, Stored, fresh_board, Reached, reached, within}
+use Rattle.runs.proofs.Invariants.{Opens, opens, Stored, Reached, reached, within}
 use Rattle.runs.proofs.LawsSteps.{on_slot}
 
 refused_proposes : {V : Type 0} (values : Values V) (s : ℕ) (c : Call V) (n : Refusal) → proposed_by values s c (Refused n) ≡ []

@@ -1,5 +1,5 @@
 -- What the opening and each call of a panel answer and leave. A value is known by its meaning, a message's value by its place on the roll.
-use Rattle.std.specs.Prelude.{◌≡◌, ℕ, zero, suc, ◌+◌, ◌%◌, Bool, true, false, cond, not, ◌&&◌, ◌||◌, List, [], ◌∷◌, ◌++◌, replicate, is_some, Some, None, Option, ◌==◌, nat_le, nat_lt, slice_index_or, slice_set}
+use Rattle.std.specs.Prelude.{ℕ, zero, suc, ◌+◌, ◌%◌, Bool, false, cond, not, ◌&&◌, ◌||◌, List, [], ◌∷◌, ◌++◌, replicate, is_some, Some, None, Option, ◌==◌, nat_le, nat_lt, slice_index_or, slice_set}
 use Rattle.std.specs.Option.{unwrap_or}
 use Rattle.sets.specs.Sets.{node?, set?, has}
 use Rattle.trust.specs.declared.refusal.Refusal.{Refusal}
@@ -11,11 +11,11 @@ use Rattle.protocol.specs.Hearing.{absent, is, heeds, hear}
 use Rattle.protocol.specs.Kinds.{kind_of}
 use Rattle.protocol.specs.declared.message.Place.{Place}
 use Rattle.protocol.specs.declared.message.Kind.{Kind}
-use Rattle.protocol.specs.declared.message.Kind.TheVariants.{Send, Echo, Ready}
+use Rattle.protocol.specs.declared.message.Kind.TheVariants.{Ready}
 use Rattle.protocol.specs.declared.record.Heard.{Heard}
 use Rattle.protocol.specs.declared.record.Heard.TheVariants.{Ignored}
 use Rattle.protocol.specs.declared.slot.Slot.{Slot}
-use Rattle.broadcast.specs.Slots.{Setting, correct?, record_at, waiting}
+use Rattle.broadcast.specs.Slots.{Setting, record_at, waiting}
 use Rattle.broadcast.specs.Events.{hears}
 use Rattle.runs.specs.declared.call.Call.{Call}
 use Rattle.runs.specs.declared.call.Call.TheVariants.{Propose, Forge, Hand}

@@ -3,7 +3,6 @@ use Rattle.std.specs.Prelude.{◌≡◌, ℕ, ◌+◌, ◌*◌, ◌≤◌, Bool,
 use Rattle.sets.specs.Sets.{has}
 use Rattle.trust.specs.declared.refusal.Refusal.{Refusal}
 use Rattle.trust.specs.Sorting.{wise_mask, max_guild}
-use Rattle.protocol.specs.declared.message.Place.{Place}
 use Rattle.broadcast.specs.Claims.{Quiet}
 use Rattle.broadcast.specs.Counts.{correct_count}
 use Rattle.runs.specs.declared.call.Call.{Call}

@@ -1,5 +1,5 @@
 -- At the end of a text the lists of a draft fit or lack a fail-prone set, as its records say.
-use Rattle.std.proofs.Common.{◌≡◌, ℕ, zero, suc, ◌^◌, ◌<◌, ◌≤◌, Bool, true, false, cond, not, ◌&&◌, eqb, ltb, leb, List, [], ◌∷◌, map, length, get_or, Some, None, Ok, Err, Option, Result, sym, refl, ap, ◌∙◌, subst, ap₂, ⊎_elim, arith}
+use Rattle.std.proofs.Common.{◌≡◌, ℕ, suc, ◌^◌, ◌<◌, ◌≤◌, Bool, true, false, cond, not, ◌&&◌, eqb, ltb, leb, List, [], ◌∷◌, map, length, get_or, Some, None, Ok, Err, Result, sym, refl, ap, ◌∙◌, ap₂, ⊎_elim, arith}
 use Rattle.std.proofs.lemmas.Bool.{and_from, cases_Bool, cases_lt, eq-eqb, eqb-true, le-leb, leb-true, lt-ltb, ltb-true, not-true, not_from_false, both_ways, cond-true, cond-false, cond_both}
 use Rattle.sets.specs.Sets.{node?, rest, any_below, all_below}
 use Rattle.sets.specs.Lists.{all_of, of_nodes?}
@@ -11,13 +11,12 @@ use Rattle.trust.specs.declared.refusal.Refusal.TheVariants.{Range, NoFailProneS
 use Rattle.trust.specs.declared.statement.Statement.{Statement}
 use Rattle.trust.specs.Families.{sets_in, no_family}
 use Rattle.trust.specs.Fitting.{in_range?, some_each?, unfit}
-use Rattle.trust.specs.Refusals.{first_of}
 use Rattle.text.specs.declared.draft.Draft.{Draft}
 use Rattle.text.specs.declared.record.Role.TheVariants.{FailProne, Quorum}
 use Rattle.text.specs.declared.record.Record.{Record}
-use Rattle.text.specs.Reading.{begun?, newest_of, count_said, said}
+use Rattle.text.specs.Reading.{begun?, count_said, said}
 use Rattle.text.specs.Drafts.{sets_at, quorums_at, Kept}
-use Rattle.text.specs.Outcomes.{none?, lacking?, end_refusal, quorums_said, Says, Finished}
+use Rattle.text.specs.Outcomes.{none?, lacking?, end_refusal, quorums_said, Finished}
 
 -- rests are sets of the nodes
 rests_fit : (n : ℕ) (xs : List ℕ) → of_nodes? n (map (rest n) xs) ≡ true

@@ -1,10 +1,10 @@
 -- What is known of a record that is in range and in order.
-use Rattle.std.proofs.Common.{◌≡◌, ℕ, ◌≤◌, Bool, true, false, not, ◌&&◌, ◌||◌, eqb, leb, Some, None, Option, sym, refl, ap, ◌∙◌, ⊎_elim, arith}
+use Rattle.std.proofs.Common.{◌≡◌, ℕ, ◌≤◌, true, ◌&&◌, eqb, leb, Some, None, Option, ⊎_elim, arith}
 use Rattle.std.proofs.lemmas.Bool.{and_parts, leb-true, or_cases, eqb-true, false≢true}
 use Rattle.sets.specs.Sets.{node?, set?}
 use Rattle.text.specs.declared.record.Entry.{Entry}
 use Rattle.text.specs.declared.record.Record.{Record}
-use Rattle.text.specs.declared.record.Record.TheVariants.{Count, Listed}
+use Rattle.text.specs.declared.record.Record.TheVariants.{Listed}
 use Rattle.text.specs.Reading.{in_range?, in_order?, begun?}
 
 -- an entry names a node and a set of the counted ones

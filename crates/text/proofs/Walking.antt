@@ -1,5 +1,5 @@
 -- A text's outcome, one line further.
-use Rattle.std.proofs.Common.{◌≡◌, ℕ, suc, ◌+◌, ◌≤◌, Bool, true, false, cond, List, [], ◌∷◌, length, take, drop, Some, None, Ok, Err, Result, sym, refl, ap, ◌∙◌, subst, ⊎_elim, arith}
+use Rattle.std.proofs.Common.{◌≡◌, ℕ, suc, ◌+◌, ◌≤◌, true, cond, List, [], ◌∷◌, length, drop, None, Ok, Err, Result, sym, refl, ap, ◌∙◌, subst, ⊎_elim, arith}
 use Rattle.std.proofs.lemmas.List.{drop_all}
 use Rattle.std.proofs.lemmas.Bool.{cases_Bool}
 use Rattle.trust.specs.declared.refusal.Refusal.{Refusal}
@@ -8,7 +8,7 @@ use Rattle.text.specs.declared.record.Record.{Record}
 use Rattle.text.specs.Lines.{LineOf, lines, NextLine}
 use Rattle.text.specs.Records.{record_of}
 use Rattle.text.specs.Reading.{judged, line_says}
-use Rattle.text.specs.Outcomes.{Outcome, accepted, refused, at_end, end_refusal, outcome, outcome_of, Says, Finished, Accepts, Refuses}
+use Rattle.text.specs.Outcomes.{Outcome, refused, at_end, end_refusal, outcome, outcome_of, Finished, Accepts, Refuses}
 
 -- what the first line decides
 abbrev Ahead : List Record → ℕ → LineOf → List LineOf → Result Record Refusal → Outcome → Type 0

@@ -1,5 +1,5 @@
 -- What a draft holds, as an inner function's contract says it.
-use Rattle.std.specs.Prelude.{◌≡◌, ℕ, suc, ◌-◌, ◌<◌, true, cond, List, [], ◌∷◌, ◌++◌, map, length, Some, Ok, Err, Result, ◌==◌, slice_index_or}
+use Rattle.std.specs.Prelude.{◌≡◌, ℕ, suc, ◌-◌, ◌<◌, true, cond, List, ◌∷◌, ◌++◌, map, length, Some, Ok, Err, Result, ◌==◌, slice_index_or}
 use Rattle.sets.specs.Sets.{rest}
 use Rattle.sets.specs.Lists.{of_nodes?}
 use Rattle.trust.specs.declared.refusal.Refusal.{Refusal}

@@ -1,7 +1,5 @@
 -- What one line of a statement text says, by its fields.
-use Rattle.std.specs.Prelude.{ℕ, Bool, true, false, cond, not, ◌&&◌, ◌||◌, List, [], ◌∷◌, Some, None, Option, ◌==◌}
-use Rattle.sets.specs.declared.Node.{Node}
-use Rattle.sets.specs.declared.NodeSet.{NodeSet}
+use Rattle.std.specs.Prelude.{ℕ, cond, List, [], ◌∷◌, Some, None, Option, ◌==◌}
 use Rattle.text.specs.declared.record.Role.{Role}
 use Rattle.text.specs.declared.record.Role.TheVariants.{FailProne, Quorum}
 use Rattle.text.specs.declared.record.Entry.{Entry}

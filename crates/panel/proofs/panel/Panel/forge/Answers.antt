@@ -1,10 +1,9 @@
-use Rattle.std.proofs.Common.{◌≡◌, ◌≤◌, Bool, true, false, not, ◌&&◌, eqb, ltb, List, [], length, set, sym, refl, ap, ◌∙◌, ap₂, arith}
-use Rattle.std.proofs.lemmas.Bool.{or_parts, ltb-false, and_cases}
+use Rattle.std.proofs.Common.{◌≡◌, ◌&&◌, List, [], length, sym, refl, ap, ◌∙◌}
 use Rattle.protocol.specs.declared.record.Heard.{Heard}
 use Rattle.protocol.specs.declared.slot.Slot.{Slot}
 use Rattle.runs.specs.declared.call.Answer.TheVariants.{Stepped}
-use Rattle.runs.specs.Calls.{setting, slot_at, known_in, place_of, heeds_in, hears_in, kind, roll_full, entered}
-use Rattle.panel.specs.Views.{world_of, state_of, Carries}
+use Rattle.runs.specs.Calls.{known_in, place_of, heeds_in, hears_in, kind, roll_full, entered}
+use Rattle.panel.specs.Views.{world_of, state_of}
 use Rattle.panel.proofs.Answering.{used_within, few_places, known_is, unchanged, enters}
 use Rattle.panel.proofs.Forging.{message_parts, in_board, forge_refused, forge_fits, forge_ignored, forge_heard, same_board, same_heard}
 use Rattle.panel.proofs.panel.Panel.forge.Goals as goal

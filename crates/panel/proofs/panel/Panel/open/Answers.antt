@@ -1,9 +1,8 @@
-use Rattle.std.proofs.Common.{◌≡◌, [], length, None, Option, sym, refl, ap, ◌∙◌, subst, ap₂}
+use Rattle.std.proofs.Common.{◌≡◌, [], length, None, Option, sym, refl, subst, ap₂}
 use Rattle.trust.specs.declared.refusal.Refusal.{Refusal}
 use Rattle.runs.specs.Calls.{World, State, opening, fresh}
 use Rattle.runs.specs.Promise.{CameAbout}
 use Rattle.runs.specs.Promise.CameAbout.{opened}
-use Rattle.panel.specs.Views.{state_of}
 use Rattle.panel.proofs.panel.Panel.open.Goals as goal
 
 pub returns : goal.returns

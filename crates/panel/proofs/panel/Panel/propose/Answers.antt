@@ -1,10 +1,9 @@
-use Rattle.std.proofs.Common.{◌≡◌, Bool, true, false, not, List, [], length, is_some, Some, None, Option, sym, refl, ap, ◌∙◌, ap₂}
-use Rattle.std.proofs.lemmas.Bool.{not_from_true, not_from_false}
+use Rattle.std.proofs.Common.{◌≡◌, Bool, not, [], length, is_some, Some, None, Option, sym, refl, ap, ◌∙◌, ap₂}
 use Rattle.protocol.specs.Hearing.{absent}
 use Rattle.protocol.specs.declared.message.Place.{Place}
 use Rattle.runs.specs.declared.call.Answer.TheVariants.{Proposed}
 use Rattle.runs.specs.Calls.{slot_at, known_in, with_proposal, place_of}
-use Rattle.panel.specs.Views.{world_of, state_of, Carries}
+use Rattle.panel.specs.Views.{world_of, state_of}
 use Rattle.panel.proofs.Answering.{used_within, known_is, unchanged, enters}
 use Rattle.panel.proofs.Proposing.{propose_refused, roll_fits, already_proposed, now_proposed}
 use Rattle.panel.proofs.panel.Panel.propose.Goals as goal

@@ -1,4 +1,4 @@
-use Rattle.std.proofs.Common.{sym, refl, ◌∙◌, arith}
+use Rattle.std.proofs.Common.{refl, arith}
 use Rattle.runs.proofs.TableHolds.{all_hold, further_hold}
 use Rattle.panel.proofs.Playing.{plays_none, plays_turn, plays_all}
 use Rattle.panel.proofs.Promising.{promised}

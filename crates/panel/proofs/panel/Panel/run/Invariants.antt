@@ -1,4 +1,4 @@
-use Rattle.std.proofs.Common.{◌≡◌, ℕ, length, take, drop}
+use Rattle.std.proofs.Common.{◌≡◌, take, drop}
 use Rattle.panel.specs.Playing.{Plays}
 use Rattle.panel.proofs.panel.Panel.run.Given as goal
 

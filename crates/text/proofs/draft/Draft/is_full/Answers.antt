@@ -1,4 +1,4 @@
-use Rattle.std.proofs.Common.{◌≡◌, sym, ap, ◌∙◌}
+use Rattle.std.proofs.Common.{sym, ap, ◌∙◌}
 use Rattle.text.specs.Reading.{in_range?, in_order?}
 use Rattle.text.proofs.Records.{entry_fits}
 use Rattle.text.proofs.draft.Draft.is_full.Goals as goal
