@@ -40,23 +40,23 @@ module _ (w : Setting) (safe live : ℕ) (sides : Assumed w safe live) (s : Slot
 
   backed_by : (m : Kind) (i j : ℕ) (v : Place) (q : ℕ) → has safe i ≡ true → has safe j ≡ true → Backed m i v → holds_quorum w.trust j q ≡ true
       → (c : ℕ) × (correct? w c ≡ true) × (has q c ≡ true) × (said w s m c ≡ Some v)
-  backed_by m i j v q i-safe j-safe h e =
-      let (c, c_correct, says, member) = sides.shared i j (sayers m i v) q i-safe j-safe h e in
-      (c, c_correct, member, said_by m i c v i-safe c_correct says)
+  backed_by m i j v q i_safe j_safe h e =
+      let (c, c_correct, says, member) = sides.shared i j (sayers m i v) q i_safe j_safe h e in
+      (c, c_correct, member, said_by m i c v i_safe c_correct says)
 
   one_value : (m : Kind) (i j : ℕ) (u v : Place) → has safe i ≡ true → has safe j ≡ true → Backed m i u → Backed m j v → u ≡ v
-  one_value m i j u v i-safe j-safe h e =
-      let (c, c_correct, says, said_u) = backed_by m i j u (sayers m j v) i-safe j-safe h e in
-      some_same said_u (said_by m j c v j-safe c_correct says)
+  one_value m i j u v i_safe j_safe h e =
+      let (c, c_correct, says, said_u) = backed_by m i j u (sayers m j v) i_safe j_safe h e in
+      some_same said_u (said_by m j c v j_safe c_correct says)
 
   ready_backed : (i : ℕ) (v : Place) → has safe i ≡ true → Delivered s i v → Backed Ready i v
   ready_backed i v is_safe d = inv.delivers i (sides.safe_correct i is_safe) v d
 
   agrees : (i j : ℕ) (u v : Place) → has safe i ≡ true → has safe j ≡ true → Delivered s i u → Delivered s j v → u ≡ v
-  agrees i j u v i-safe j-safe d e = one_value Ready i j u v i-safe j-safe (ready_backed i u i-safe d) (ready_backed j v j-safe e)
+  agrees i j u v i_safe j_safe d e = one_value Ready i j u v i_safe j_safe (ready_backed i u i_safe d) (ready_backed j v j_safe e)
 
   live_agree : (u v : Place) → EchoedFor w live s u → EchoedFor w live s v → u ≡ v
-  live_agree u v (p, p-live, h) (q, q-live, e) = one_value Echo p q u v (sides.live_safe p p-live) (sides.live_safe q q-live) h e
+  live_agree u v (p, p_live, h) (q, q_live, e) = one_value Echo p q u v (sides.live_safe p p_live) (sides.live_safe q q_live) h e
 
   readied_by_echoes : (v : Place) → EchoedFor w live s v → (p : ℕ) × (has live p ≡ true) × ReadiedByEchoes w s p v
   readied_by_echoes v (p, is_live, h) =
@@ -74,10 +74,10 @@ module _ (w : Setting) (safe live : ℕ) (sides : Assumed w safe live) (s : Slot
   sender_is {o} = ap (λ b. cond b o None) (eq-eqb w.sender w.sender refl)
 
   echoed_proposed : (v : Place) → correct? w w.sender ≡ true → EchoedFor w live s v → s.proposal ≡ Some v
-  echoed_proposed v sender-correct (p, is_live, h) =
+  echoed_proposed v sender_correct (p, is_live, h) =
       let is_safe = sides.live_safe p is_live in
       let (c, c_correct, _, e) = backed_by Echo p p v (sayers Echo p v) is_safe is_safe h h in
-      sym sender_is ∙ inv.told Send w.sender c v sender-correct c_correct (sender_is ∙ e)
+      sym sender_is ∙ inv.told Send w.sender c v sender_correct c_correct (sender_is ∙ e)
 
   module _ (quiet : Quiet w s) where
     arrives : (m : Kind) (i k : ℕ) (v : Place) → correct? w i ≡ true → correct? w k ≡ true → said w s m i ≡ Some v → taken w.sender (record_at s k) m i ≡ Some v
@@ -108,9 +108,9 @@ module _ (w : Setting) (safe live : ℕ) (sides : Assumed w safe live) (s : Slot
         e ∙ ap Some (one_value Ready g g u v is_safe is_safe (ready_backed g u is_safe e) h)
 
     readied_if_backed : (i : ℕ) (v : Place) → has safe i ≡ true → Backed Ready i v → (g : ℕ) → has live g ≡ true → (record_at s g).readied ≡ Some v
-    readied_if_backed i v i-safe h g is_live =
+    readied_if_backed i v i_safe h g is_live =
         let (u, e) = (inv.settles g is_live).by_kernel v kernel in
-        e ∙ ap Some (live_agree u v (inv.origin g u is_live e) (ready_echoed g i v is_live i-safe h))
+        e ∙ ap Some (live_agree u v (inv.origin g u is_live e) (ready_echoed g i v is_live i_safe h))
       where
         g_correct : correct? w g ≡ true
         g_correct = live_correct w safe live sides g is_live
@@ -118,22 +118,22 @@ module _ (w : Setting) (safe live : ℕ) (sides : Assumed w safe live) (s : Slot
         kernel : holds_kernel w.trust g (recorded_with (record_at s g).readies v) ≡ true
         kernel =
             kernel_from w.trust g (sayers Ready g v) (correct_node w g g_correct) (readies_lt g v g_correct)
-            (λ q is-quorum.
-            let (c, c_correct, member, e) = backed_by Ready i g v q i-safe (sides.live_safe g is_live) h is-quorum in
+            (λ q is_quorum.
+            let (c, c_correct, member, e) = backed_by Ready i g v q i_safe (sides.live_safe g is_live) h is_quorum in
             (c, arrived Ready c g v c_correct g_correct e, member))
 
     readied_if_proposed : (v : Place) → Proposed w s v → (g : ℕ) → has live g ≡ true → (record_at s g).readied ≡ Some v
-    readied_if_proposed v (sender-correct, e) g is_live =
+    readied_if_proposed v (sender_correct, e) g is_live =
         let (u, r) = (inv.settles g is_live).by_echoes v (live_backed Echo v echoed g is_live (echoes_lt g v (live_correct w safe live sides g is_live))) in
-        r ∙ ap Some (some_same (echoed_proposed u sender-correct (inv.origin g u is_live r)) e)
+        r ∙ ap Some (some_same (echoed_proposed u sender_correct (inv.origin g u is_live r)) e)
       where
         echoed : (j : ℕ) → has live j ≡ true → (record_at s j).echoed ≡ Some v
-        echoed j l = sym sender_is ∙ arrives Send w.sender j v sender-correct (live_correct w safe live sides j l) (sender_is ∙ e)
+        echoed j l = sym sender_is ∙ arrives Send w.sender j v sender_correct (live_correct w safe live sides j l) (sender_is ∙ e)
 
   pub reliable : Reliable w safe live s
   reliable = record {
     agreement = agrees;
-    integrity = λ g i v is_live is_safe sender-correct d. echoed_proposed v sender-correct (ready_echoed g i v is_live is_safe (ready_backed i v is_safe d));
+    integrity = λ g i v is_live is_safe sender_correct d. echoed_proposed v sender_correct (ready_echoed g i v is_live is_safe (ready_backed i v is_safe d));
     totality = λ g v quiet from is_live. delivers_all quiet v
         (⊎_elim (λ (i, is_safe, d). readied_if_backed quiet i v is_safe (ready_backed i v is_safe d)) (readied_if_proposed quiet v) from) g is_live;
     origin = λ g v is_live e. readied_by_echoes v (inv.origin g v is_live e);

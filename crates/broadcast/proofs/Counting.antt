@@ -69,14 +69,14 @@ module _ (w : Setting) where
       next = hears w m j k v s
 
       unchanged : (n : Kind) (a b : ℕ) → 1 ≤ a → 1 ≤ b → (n ≡ m → a ≡ j → b ≡ k → ⊥) → cell next n a b ≡ cell s n a b
-      unchanged n a b a-low b-low =
+      unchanged n a b a_low b_low =
           let (low, high) = correct_bounds w k k_correct in
           let way = heard w.trust w.sender k j v x m in
           record_each (λ c z. (n ≡ m → a ≡ j → c ≡ k → ⊥) → one (correct? w a && correct? w c && any (taken w.sender z n a)) ≡ cell s n a c) s k y low (omega (arith, inv.long))
           (λ ne. ap (λ c. one (correct? w a && correct? w k && c))
           (same_any (taken w.sender x n a) (taken w.sender y n a) (taken_kept w.sender (grew (inv.shaped k k_correct) way) n a)
-          (λ u e. ⊎_elim (λ was. was) (λ h. absurd (ne h.0 h.1 refl)) (taken_new (inv.shaped k k_correct) way n a u a-low e))))
-          b b-low (λ _. refl)
+          (λ u e. ⊎_elim (λ was. was) (λ h. absurd (ne h.0 h.1 refl)) (taken_new (inv.shaped k k_correct) way n a u a_low e))))
+          b b_low (λ _. refl)
 
       heard_more : cell next m j k ≡ cell s m j k + d → heard_count w next ≡ heard_count w s + d
       heard_more here =
@@ -84,10 +84,10 @@ module _ (w : Setting) where
           let (k_low, k_high) = correct_bounds w k k_correct in
           kinds_more m d (λ n. sum size (λ a. sum size (cell s n a))) (λ n. sum size (λ a. sum size (cell next n a)))
           (sum_more size j d (λ a. sum size (cell s m a)) (λ a. sum size (cell next m a)) j_low j_high
-          (sum_more size k d (cell s m j) (cell next m j) k_low k_high here (λ b b-low _ ne. unchanged m j b j_low b-low (λ _ _ e. ne e)))
-          (λ a a-low _ ne. sum_same size (cell s m a) (cell next m a) (λ b b-low _. unchanged m a b a-low b-low (λ _ e _. ne e))))
+          (sum_more size k d (cell s m j) (cell next m j) k_low k_high here (λ b b_low _ ne. unchanged m j b j_low b_low (λ _ _ e. ne e)))
+          (λ a a_low _ ne. sum_same size (cell s m a) (cell next m a) (λ b b_low _. unchanged m a b a_low b_low (λ _ e _. ne e))))
           (λ n ne. sum_same size (λ a. sum size (cell s n a)) (λ a. sum size (cell next n a))
-          (λ a a-low _. sum_same size (cell s n a) (cell next n a) (λ b b-low _. unchanged n a b a-low b-low (λ e _ _. ne e))))
+          (λ a a_low _. sum_same size (cell s n a) (cell next n a) (λ b b_low _. unchanged n a b a_low b_low (λ e _ _. ne e))))
 
     -- a faulty node's message counts nothing
     pub heard_forged : (m : Kind) (j k : ℕ) (v : Place) → faulty? w j ≡ true → correct? w k ≡ true → heard_count w (hears w m j k v s) ≡ heard_count w s

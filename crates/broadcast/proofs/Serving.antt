@@ -20,7 +20,7 @@ module _ (w : Setting) where
       let sides = sound_serves w.trust w.faulty is_sound low in
       record {
         safe_correct = λ i wise. correct_from i (sides.wise_correct i wise).0;
-        shared = λ i j a b i-wise j-wise h e. let (c, ok, in_a, in_b) = sides.shared i j a b i-wise j-wise h e in (c, correct_from c ok, in_a, in_b);
+        shared = λ i j a b i_wise j_wise h e. let (c, ok, in_a, in_b) = sides.shared i j a b i_wise j_wise h e in (c, correct_from c ok, in_a, in_b);
         live_safe = sides.guild_wise;
         live_quorum = sides.guild_quorum;
       }

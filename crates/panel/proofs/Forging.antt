@@ -35,7 +35,7 @@ in_board w s k few small slot node =
     (omega arith, b, omega arith)
 
 module _ {V : Type 0} (w : World) (places : ℕ) (x : State V) (n s i k : ℕ) (v : V) (fit fit' : Bool) (known known' : Option Place)
-    (fit_is : fit ≡ fit') (KnownIs : roll_size x.used places ≡ false → known ≡ known') where
+    (fit_is : fit ≡ fit') (known_same : roll_size x.used places ≡ false → known ≡ known') where
   abbrev seen : State (Unit {0})
   seen = record { used = x.used; row = []; board = x.board }
 
@@ -51,7 +51,7 @@ module _ {V : Type 0} (w : World) (places : ℕ) (x : State V) (n s i k : ℕ) (
       ∷ [])))
 
   same_refusal : first_of (forge_refusals w seen places n s i k fit known) ≡ first_of (forge_refusals w x places n s i k fit' known')
-  same_refusal = after_first (roll_size x.used places) RollSize (later fit known) (later fit' known') (λ fits. ap₂ (λ f p. first_of (later f p)) fit_is (KnownIs fits))
+  same_refusal = after_first (roll_size x.used places) RollSize (later fit known) (later fit' known') (λ fits. ap₂ (λ f p. first_of (later f p)) fit_is (known_same fits))
 
   pub forge_refused : (e : Refusal) → Some e ≡ first_of (forge_refusals w seen places n s i k fit known) → forge w places x n s i k v fit' known' ≡ (Refused e, x)
   forge_refused e h = is_refused (first_of (forge_refusals w x places n s i k fit' known')) e x _ (sym same_refusal ∙ sym h)
@@ -61,7 +61,7 @@ module _ {V : Type 0} (w : World) (places : ℕ) (x : State V) (n s i k : ℕ) (
     forge_fits = let all = none_holds (forge_refusals w seen places n s i k fit known) (sym free) in (all.0, not-false (message? w n s i k) all.1.0, all.1.1.1.1.0)
 
     goes_on : forge w places x n s i k v fit' known' ≡ forge w places x n s i k v fit known
-    goes_on = ap₂ (λ f p. forge w places x n s i k v f p) (sym fit_is) (sym (KnownIs forge_fits.0))
+    goes_on = ap₂ (λ f p. forge w places x n s i k v f p) (sym fit_is) (sym (known_same forge_fits.0))
 
     is_taken : (b : Bool) → heeded ≡ b → forge w places x n s i k v fit known
         ≡ cond b (Stepped (hears_in w x.board s (kind n) i k (place_of x.used known)).0, entered x v known (hears_in w x.board s (kind n) i k (place_of x.used known)).1) (Stepped Ignored, x)

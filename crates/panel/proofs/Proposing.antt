@@ -12,7 +12,7 @@ use Rattle.panel.proofs.Refusing.{none_holds, after_first}
 use Rattle.panel.proofs.Answering.{is_refused, is_free}
 
 module _ {V : Type 0} (w : World) (places : ℕ) (x : State V) (s : ℕ) (v : V) (fit fit' : Bool) (known known' : Option Place)
-    (fit_is : fit ≡ fit') (KnownIs : roll_size x.used places ≡ false → known ≡ known') where
+    (fit_is : fit ≡ fit') (known_same : roll_size x.used places ≡ false → known ≡ known') where
   -- as the code sees the state, which has no row
   abbrev seen : State (Unit {0})
   seen = record { used = x.used; row = []; board = x.board }
@@ -27,7 +27,7 @@ module _ {V : Type 0} (w : World) (places : ℕ) (x : State V) (s : ℕ) (v : V)
       ∷ []))))
 
   same_refusal : first_of (propose_refusals w seen places s fit known) ≡ first_of (propose_refusals w x places s fit' known')
-  same_refusal = after_first (roll_size x.used places) RollSize (later fit known) (later fit' known') (λ fits. ap₂ (λ f k. first_of (later f k)) fit_is (KnownIs fits))
+  same_refusal = after_first (roll_size x.used places) RollSize (later fit known) (later fit' known') (λ fits. ap₂ (λ f k. first_of (later f k)) fit_is (known_same fits))
 
   pub propose_refused : (e : Refusal) → Some e ≡ first_of (propose_refusals w seen places s fit known) → propose w places x s v fit' known' ≡ (Refused e, x)
   propose_refused e h = is_refused (first_of (propose_refusals w x places s fit' known')) e x _ (sym same_refusal ∙ sym h)
@@ -46,4 +46,4 @@ module _ {V : Type 0} (w : World) (places : ℕ) (x : State V) (s : ℕ) (v : V)
         → propose w places x s v fit' known' ≡ (Proposed, entered x v known (with_proposal x.board s (place_of x.used known)))
     now_proposed h =
         goes_on ∙ cond-true (absent (slot_at x.board s).proposal) _ _ h
-        ∙ ap (λ k. (Proposed, entered x v k (with_proposal x.board s (place_of x.used k)))) (sym (KnownIs roll_fits.0))
+        ∙ ap (λ k. (Proposed, entered x v k (with_proposal x.board s (place_of x.used k)))) (sym (known_same roll_fits.0))

@@ -31,25 +31,25 @@ module _ {V : Type 0} (values : Values V) (x : State V) (node account : ℕ) whe
   -- the turn at slot i, from m and n to k and l
   module _ (i m n k l : ℕ) (so_far : (m, n) ≡ tally_below i) (a : Bool) (of : a ≡ of? i) where
     turn : (d e : Bool) → (of? i && first? i) ≡ d → (of? i && not (first? i)) ≡ e → k ≡ m + cond d 1 0 → l ≡ n + cond e 1 0 → (k, l) ≡ tally_below (i + 1)
-    turn d e at-d at-e more-k more-l =
+    turn d e at_d at_e more_k more_l =
         let pair : ℕ → ℕ → ℕ × ℕ = λ y z. (y, z) in
-        ap₂ pair (count_more (λ s. of? s && first? s) i m k d (ap (λ y. y.0) so_far) at-d more-k)
-        (count_more (λ s. of? s && not (first? s)) i n l e (ap (λ y. y.1) so_far) at-e more-l)
+        ap₂ pair (count_more (λ s. of? s && first? s) i m k d (ap (λ y. y.0) so_far) at_d more_k)
+        (count_more (λ s. of? s && not (first? s)) i n l e (ap (λ y. y.1) so_far) at_e more_l)
 
     pub tally_other : a ≡ false → k ≡ m → l ≡ n → (k, l) ≡ tally_below (i + 1)
-    tally_other t same-k same-l =
+    tally_other t same_k same_l =
         let none = sym of ∙ t in
         turn false false (ap (λ y. y && first? i) none) (ap (λ y. y && not (first? i)) none) (omega arith) (omega arith)
 
     module _ (b : Bool) (first : b ≡ first? i) where
       pub tally_counted : a ≡ true → b ≡ true → k ≡ m + 1 → l ≡ n → (k, l) ≡ tally_below (i + 1)
-      tally_counted t u more-k same-l =
+      tally_counted t u more_k same_l =
           let y = sym of ∙ t in
           let z = sym first ∙ u in
-          turn true false (ap₂ (λ y z. y && z) y z) (ap₂ (λ y z. y && not z) y z) more-k (omega arith)
+          turn true false (ap₂ (λ y z. y && z) y z) (ap₂ (λ y z. y && not z) y z) more_k (omega arith)
 
       pub tally_left_out : a ≡ true → b ≡ false → k ≡ m → l ≡ n + 1 → (k, l) ≡ tally_below (i + 1)
-      tally_left_out t u same-k more-l =
+      tally_left_out t u same_k more_l =
           let y = sym of ∙ t in
           let z = sym first ∙ u in
-          turn false true (ap₂ (λ y z. y && z) y z) (ap₂ (λ y z. y && not z) y z) (omega arith) more-l
+          turn false true (ap₂ (λ y z. y && z) y z) (ap₂ (λ y z. y && not z) y z) (omega arith) more_l

@@ -85,19 +85,19 @@ module _ {V : Type 0} (values : Values V) (w : World) (x : State V) where
 
   pub board_after : {c : Call V} {a : Answer} {y : State V} → Moves values w x c a y → BoardAfter c a y.board
   board_after (refuses c n) = board_same n
-  board_after (repeats s v p in-slots ok fit e _) = event_none (Propose s v) Already refl in-slots ok (proposes_same (setting w s) _ p _ e)
-  board_after (offers s v in-slots ok fit e) =
+  board_after (repeats s v p in_slots ok fit e _) = event_none (Propose s v) Already refl in_slots ok (proposes_same (setting w s) _ p _ e)
+  board_after (offers s v in_slots ok fit e) =
       subst (BoardAfter (Propose s v) Proposed) (sym (entered_board x v (known values x v) _))
-      (event_some (Propose s v) Proposed _ refl in-slots ok (proposes_new (setting w s) (slot_at x.board s) (placed values x v) ok e))
-  board_after (ignores n s i k v (_, in-slots) (from, to) fit e) =
-      event_none (Forge n s i k v) (Stepped Ignored) refl in-slots (from, to)
+      (event_some (Propose s v) Proposed _ refl in_slots ok (proposes_new (setting w s) (slot_at x.board s) (placed values x v) ok e))
+  board_after (ignores n s i k v (_, in_slots) (from, to) fit e) =
+      event_none (Forge n s i k v) (Stepped Ignored) refl in_slots (from, to)
       (forge_is (setting w s) (slot_at x.board s) (kind n) i k (placed values x v) from to
       ∙ hears_ignored (setting w s) (kind n) i k (placed values x v) (slot_at x.board s) e)
-  board_after (forges n s i k v (_, in-slots) (from, to) fit e) =
+  board_after (forges n s i k v (_, in_slots) (from, to) fit e) =
       subst (BoardAfter (Forge n s i k v) _) (sym (entered_board x v (known values x v) _))
-      (event_some (Forge n s i k v) _ _ refl in-slots (from, to) (forge_is (setting w s) (slot_at x.board s) (kind n) i k (placed values x v) from to))
-  board_after (hands n s i k p (_, in-slots) e) =
-      event_some (Hand n s i k) _ _ refl in-slots (p, e) (hand_is (setting w s) (slot_at x.board s) (kind n) i k p e)
+      (event_some (Forge n s i k v) _ _ refl in_slots (from, to) (forge_is (setting w s) (slot_at x.board s) (kind n) i k (placed values x v) from to))
+  board_after (hands n s i k p (_, in_slots) e) =
+      event_some (Hand n s i k) _ _ refl in_slots (p, e) (hand_is (setting w s) (slot_at x.board s) (kind n) i k p e)
 
   -- one slot: nothing happens in it, or the call's event does
   pub data SlotAfter (c : Call V) (t : ℕ) : Answer → Slot → Type 0 where
@@ -106,13 +106,13 @@ module _ {V : Type 0} (values : Values V) (w : World) (x : State V) where
 
   pub slot_after : ((s : ℕ) → InSlots w s → s < length x.board) → {c : Call V} {a : Answer} {b : List Slot} → BoardAfter c a b → (t : ℕ) → SlotAfter c t a (slot_at b t)
   slot_after long (board_same n) t = slot_same (Refused n) (λ e _. both_ways false refl e)
-  slot_after long {c} (board_event a ok in-slots h) t =
+  slot_after long {c} (board_event a ok in_slots h) t =
       ⊎_elim
       (λ e. subst (λ n. SlotAfter c n a (slot_at (set x.board (slot_of c) (event_slot (slot_of c) c)) n)) e
-      (subst (SlotAfter c (slot_of c) a) (sym (get_or-set_same x.board (slot_of c) (event_slot (slot_of c) c) no_slot (long (slot_of c) in-slots))) (slot_event a ok refl in-slots h)))
+      (subst (SlotAfter c (slot_of c) a) (sym (get_or-set_same x.board (slot_of c) (event_slot (slot_of c) c) no_slot (long (slot_of c) in_slots))) (slot_event a ok refl in_slots h)))
       (λ ne. subst (SlotAfter c t a) (sym (get_or-set_other x.board (slot_of c) t (event_slot (slot_of c) c) no_slot (λ e. ne (sym e)))) (slot_same a (λ _ e. ne e)))
       (cases_eq (slot_of c) t)
 
   pub board_length : {c : Call V} {a : Answer} {b : List Slot} → BoardAfter c a b → length b ≡ length x.board
   board_length (board_same n) = refl
-  board_length {c} (board_event a ok in-slots h) = length-set x.board (slot_of c) (event_slot (slot_of c) c)
+  board_length {c} (board_event a ok in_slots h) = length-set x.board (slot_of c) (event_slot (slot_of c) c)

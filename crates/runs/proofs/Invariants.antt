@@ -7,7 +7,7 @@ use Rattle.trust.specs.Sorting.{wise_mask, max_guild}
 use Rattle.protocol.specs.Fresh.{fresh_slot}
 use Rattle.protocol.specs.declared.message.Place.{Place}
 use Rattle.protocol.specs.declared.slot.Slot.{Slot}
-use Rattle.broadcast.specs.Counts.{any, one, heard_count, accepted as accepted-in}
+use Rattle.broadcast.specs.Counts.{any, one, heard_count, accepted as accepted_in}
 use Rattle.broadcast.specs.Claims.{Assumed}
 use Rattle.broadcast.proofs.Entries.{node_bounds}
 use Rattle.broadcast.proofs.Invariant.{Inv, inv_fresh, step_keeps}
@@ -104,7 +104,7 @@ module _ {V : Type 0} (values : Values V) (w : World) (o : Opens w) where
       zeroes false = refl
 
   share_one : (x : State V) (s : ℕ) (c : Call V) (a : Answer) (y : Slot) → accepted a ≡ true → slot_of c ≡ s → Happens (setting w s) y (event_of values x c)
-      → share s c a ≡ accepted-in (setting w s) y (event_of values x c)
+      → share s c a ≡ accepted_in (setting w s) y (event_of values x c)
   share_one x s (Propose t v) a y ok is h = refl
   share_one x s (Forge n t i k v) a y ok is h = refl
   share_one x s (Hand n t i k) a y ok is h =

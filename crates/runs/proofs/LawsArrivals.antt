@@ -53,15 +53,15 @@ module _ (m : Kind) (j : ℕ) (o : Option Place) (ls : List Arrival) where
   from_other_kind n i e = first_skip _ l ls (and_left (same_kind m n) (eqb j i) e)
 
   from_here : (v : Place) → o ≡ Some v → first_from m j ls ≡ None → first_from m j (l ∷ ls) ≡ Some v
-  from_here v is-v none =
-      first_once _ l ls v is-v ∙ ap (once (same_kind m m && eqb j j) v) none
+  from_here v is_v none =
+      first_once _ l ls v is_v ∙ ap (once (same_kind m m && eqb j j) v) none
       ∙ ap (λ b. cond b (Some v) None) (and_from (same_kind m m) (eqb j j) (kind_is_same m) (eq-eqb j j refl))
 
 module _ (t : Trust) (me sender : ℕ) (r : Record) (ls : List Arrival) (rec : RecordedBy t me sender ls r) (j : ℕ) where
   send_heeded : (v : Place) → j ≡ sender → r.echoed ≡ None → RecordedBy t me sender (record { kind = Send; from = j; value = Some v } ∷ ls) (takes t me r Send j v).0
-  send_heeded v is-sender free = record {
-    echoed = sym (subst (λ i. first_from Send i (record { kind = Send; from = j; value = Some v } ∷ ls) ≡ Some v) is-sender
-        (from_here Send j (Some v) ls v refl (ap (λ i. first_from Send i ls) is-sender ∙ sym rec.echoed ∙ free)));
+  send_heeded v is_sender free = record {
+    echoed = sym (subst (λ i. first_from Send i (record { kind = Send; from = j; value = Some v } ∷ ls) ≡ Some v) is_sender
+        (from_here Send j (Some v) ls v refl (ap (λ i. first_from Send i ls) is_sender ∙ sym rec.echoed ∙ free)));
     echoes = λ i low. rec.echoes i low ∙ sym (from_other_kind Send j (Some v) ls Echo i refl);
     readies = λ i low. rec.readies i low ∙ sym (from_other_kind Send j (Some v) ls Ready i refl);
     readied = rec.readied ∙ sym (first_skip (ready_now t me) _ ls (and_right (absent (first_from Send j ls)) false refl));

@@ -83,12 +83,12 @@ module _ {V : Type 0} (values : Values V) where
           → Kept (said (setting w s) (slot_at x.board s) m i) (said (setting w s) (slot_at z.board s) m i)
 
     pub later_self : (x : State V) → Later x x
-    later_self x = record { rows = λ v p e. e; words = λ s in-slots m i c u e. e }
+    later_self x = record { rows = λ v p e. e; words = λ s in_slots m i c u e. e }
 
     pub later_then : {x y z : State V} → Later x y → Later y z → Later x z
     later_then f g = record {
       rows = λ v p e. g.rows v p (f.rows v p e);
-      words = λ s in-slots m i c u e. g.words s in-slots m i c u (f.words s in-slots m i c u e);
+      words = λ s in_slots m i c u e. g.words s in_slots m i c u (f.words s in_slots m i c u e);
     }
 
     module _ (o : Opens w) (h : History V) (x : State V) (r : Reached values w h x) where
@@ -98,11 +98,11 @@ module _ {V : Type 0} (values : Values V) where
 
       words_after : (s : ℕ) → slot? w s ≡ true → (m : Kind) (i : ℕ) → correct w i ≡ true → {c : Call V} {a : Answer} {y : Slot} → SlotAfter values w x c s a y
           → Kept (said (setting w s) (slot_at x.board s) m i) (said (setting w s) y m i)
-      words_after s in-slots m i c (slot_same a ne) = λ _ e. e
-      words_after s in-slots m i c {c = b} (slot_event a ok is _ p) = step_words (setting w s) (guild w) (slot_at x.board s) (r.kept s in-slots) m i c (event_of values x b)
+      words_after s in_slots m i c (slot_same a ne) = λ _ e. e
+      words_after s in_slots m i c {c = b} (slot_event a ok is _ p) = step_words (setting w s) (guild w) (slot_at x.board s) (r.kept s in_slots) m i c (event_of values x b)
 
       pub later_move : {c : Call V} {a : Answer} {y : State V} → Moves values w x c a y → Later x y
       later_move move = record {
         rows = rows_after (grows values w x move);
-        words = λ s in-slots m i c. words_after s in-slots m i c (slot_after values w x (within values w o h x r) (board_after values w x move) s);
+        words = λ s in_slots m i c. words_after s in_slots m i c (slot_after values w x (within values w o h x r) (board_after values w x move) s);
       }

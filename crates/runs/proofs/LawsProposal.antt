@@ -47,11 +47,11 @@ module _ {V : Type 0} (values : Values V) (w : World) (o : Opens w) (h : History
   proposal_step s (refuses c n) = ap (λ l. l ++ as_list (offered values x s)) (refused_proposes values s c n)
   proposal_step s (repeats t v p _ _ _ _ _) = refl
   proposal_step s (ignores n t i k v _ _ _ _) = refl
-  proposal_step s (offers t v in-slots ok fit free) =
+  proposal_step s (offers t v in_slots ok fit free) =
       let b = with_proposal x.board t (placed values x v) in
       let row = (entered x v (known values x v) b).row in
-      let g = grows values w x (offers t v in-slots ok fit free) in
-      on_slot (λ q z. (cond (eqb t q) (values.meaning v ∷ []) [] ++ as_list (offered values x q)) ≡ as_list (meant_at values row z.proposal)) x.board t s _ (within values w o h x r t in-slots)
+      let g = grows values w x (offers t v in_slots ok fit free) in
+      on_slot (λ q z. (cond (eqb t q) (values.meaning v ∷ []) [] ++ as_list (offered values x q)) ≡ as_list (meant_at values row z.proposal)) x.board t s _ (within values w o h x r t in_slots)
       (ap₂ (λ e p. cond e (values.meaning v ∷ []) [] ++ as_list (meant_at values x.row p)) (eq-eqb t t refl) free ∙ ap as_list (sym (entered_means values x v b r.rowed)))
       (λ ne. ap (λ e. cond e (values.meaning v ∷ []) [] ++ as_list (offered values x s)) (ne_eqb t s ne) ∙ ap as_list (offered_kept g s))
       ∙ ap (λ z. as_list (meant_at values row (slot_at z s).proposal)) (sym (entered_board x v (known values x v) b))

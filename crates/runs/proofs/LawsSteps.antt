@@ -133,7 +133,7 @@ module _ (w : Setting) (live : ℕ) (z : Slot) (inv : Inv w live z) (m : Kind) (
   has l n i = taken w.sender (record_at next l) n i
 
   pub taken_hears : (n : Kind) (i l : ℕ) → 1 ≤ i → 1 ≤ l → any (has l n i) ≡ ((same_kind m n && eqb j i && eqb k l) || any (had l n i))
-  taken_hears n i l low l-low = same_answer (any (has l n i)) ((same_kind m n && eqb j i && eqb k l) || any (had l n i)) only there
+  taken_hears n i l low l_low = same_answer (any (has l n i)) ((same_kind m n && eqb j i && eqb k l) || any (had l n i)) only there
     where
       only : any (has l n i) ≡ true → ((same_kind m n && eqb j i && eqb k l) || any (had l n i)) ≡ true
       only f =
@@ -145,7 +145,7 @@ module _ (w : Setting) (live : ℕ) (z : Slot) (inv : Inv w live z) (m : Kind) (
           (and_from (same_kind m n && eqb j i) (eqb k l) (and_from (same_kind m n) (eqb j i) (ap (same_kind m) nm ∙ kind_is_same m) (eq-eqb j i (sym ij))) (eq-eqb k l e)))
           (taken_new (inv.shaped k k_correct) (heard w.trust w.sender k j v (record_at z k) m) n i u low (ap (λ a. taken w.sender a n i) (sym rec) ∙ is)))
           (λ (ne, rec). or_right (same_kind m n && eqb j i && eqb k l) (any (had l n i)) (ap (λ a. any (taken w.sender a n i)) (sym rec) ∙ f))
-          (at_node l l-low)
+          (at_node l l_low)
 
       kept : any (had l n i) ≡ true → any (has l n i) ≡ true
       kept f =
@@ -154,7 +154,7 @@ module _ (w : Setting) (live : ℕ) (z : Slot) (inv : Inv w live z) (m : Kind) (
           (λ (e, rec). ap any (ap (λ a. taken w.sender a n i) rec
           ∙ taken_kept w.sender (grew (inv.shaped k k_correct) (heard w.trust w.sender k j v (record_at z k) m)) n i u (ap (λ a. had a n i) e ∙ is)))
           (λ (ne, rec). ap (λ a. any (taken w.sender a n i)) rec ∙ f)
-          (at_node l l-low)
+          (at_node l l_low)
 
       new : (same_kind m n && eqb j i && eqb k l) ≡ true → any (has l n i) ≡ true
       new f =
@@ -164,7 +164,7 @@ module _ (w : Setting) (live : ℕ) (z : Slot) (inv : Inv w live z) (m : Kind) (
           (λ (e, rec). ap any (ap (λ a. taken w.sender a n i) rec ∙ ap (λ a. taken w.sender after.0 a i) (sym (same_kind_is m n kinds))
           ∙ ap (taken w.sender after.0 m) (sym (eqb-true j i from)) ∙ taken_now w.trust w.sender k j v (record_at z k) (inv.shaped k k_correct) m heeded))
           (λ (ne, _). absurd (ne (eqb-true k l to)))
-          (at_node l l-low)
+          (at_node l l_low)
 
       there : ((same_kind m n && eqb j i && eqb k l) || any (had l n i)) ≡ true → any (has l n i) ≡ true
       there f = ⊎_elim new kept (or_cases (same_kind m n && eqb j i && eqb k l) (any (had l n i)) f)

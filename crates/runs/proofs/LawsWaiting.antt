@@ -89,9 +89,9 @@ module _ {V : Type 0} (values : Values V) (w : World) (o : Opens w) (h : History
     said_step (refuses c n) = sym (ap (λ b. b || says_at w s (old_slot s) m i) (refused_sends w s m i c n))
     said_step (repeats t v p _ _ _ _ _) = sym (ap (λ b. b || says_at w s (old_slot s) m i) (and_right (eqb t s && eqb i (sender w t)) false refl))
     said_step (ignores n t j k v _ _ _ _) = sym (ap (λ b. b || says_at w s (old_slot s) m i) (and_right (eqb t s && eqb k i) false refl))
-    said_step (offers t v in-slots ok fit free) =
+    said_step (offers t v in_slots ok fit free) =
         ap (λ b. says_at w s (slot_at b s) m i) (entered_board x v (known values x v) _)
-        ∙ on_slot (λ q z. says_at w q z m i ≡ ((eqb t q && eqb i (sender w t) && same_kind m Send) || says_at w q (old_slot q) m i)) x.board t s _ (in_range t in-slots)
+        ∙ on_slot (λ q z. says_at w q z m i ≡ ((eqb t q && eqb i (sender w t) && same_kind m Send) || says_at w q (old_slot q) m i)) x.board t s _ (in_range t in_slots)
         (offer_says t (placed values x v) m i ∙ here_marked t (eqb i (sender w t)) (same_kind m Send) (says_at w t (old_slot t) m i))
         (other_marked t s (eqb i (sender w t)) (same_kind m Send) (says_at w s (old_slot s) m i))
     said_step (forges n t j k v (_, t_in) (from, to) fit heeded) =
@@ -112,18 +112,18 @@ module _ {V : Type 0} (values : Values V) (w : World) (o : Opens w) (h : History
       taken_step (refuses c n) = sym (ap (λ b. b || has_at w s (old_slot s) k m i) (refused_hands s m i k c n))
       taken_step (repeats t v p _ _ _ _ _) = refl
       taken_step (ignores n t j l v _ _ _ _) = refl
-      taken_step (offers t v in-slots ok fit free) =
+      taken_step (offers t v in_slots ok fit free) =
           ap (λ b. has_at w s (slot_at b s) k m i) (entered_board x v (known values x v) _)
-          ∙ on_slot (λ q z. has_at w q z k m i ≡ has_at w q (old_slot q) k m i) x.board t s _ (in_range t in-slots) refl (λ _. refl)
-      taken_step (forges n t j l v (_, in-slots) (from, to) fit heeded) =
+          ∙ on_slot (λ q z. has_at w q z k m i ≡ has_at w q (old_slot q) k m i) x.board t s _ (in_range t in_slots) refl (λ _. refl)
+      taken_step (forges n t j l v (_, in_slots) (from, to) fit heeded) =
           ap (λ b. has_at w s (slot_at b s) k m i) (entered_board x v (known values x v) _)
-          ∙ on_slot (λ q z. has_at w q z k m i ≡ has_at w q (old_slot q) k m i) x.board t s _ (in_range t in-slots)
-          (taken_hears (setting w t) (guild w) (old_slot t) (r.kept t in-slots) (kind n) j l (placed values x v) to heeded m i k low k_low
+          ∙ on_slot (λ q z. has_at w q z k m i ≡ has_at w q (old_slot q) k m i) x.board t s _ (in_range t in_slots)
+          (taken_hears (setting w t) (guild w) (old_slot t) (r.kept t in_slots) (kind n) j l (placed values x v) to heeded m i k low k_low
           ∙ sym (forged_taken t n j l (λ e. faulty_not_correct (setting w t) j from (ap (correct w) e ∙ i_correct)))) (λ _. refl)
-      taken_step (hands n t j l p (_, in-slots) e) =
+      taken_step (hands n t j l p (_, in_slots) e) =
           let (_, to, _, _) = waiting_parts (setting w t) (old_slot t) (kind n) j l p e in
-          on_slot (λ q z. has_at w q z k m i ≡ ((eqb t q && same_kind (kind n) m && eqb j i && eqb l k) || has_at w q (old_slot q) k m i)) x.board t s _ (in_range t in-slots)
-          (taken_hears (setting w t) (guild w) (old_slot t) (r.kept t in-slots) (kind n) j l p to (waiting_heeded (setting w t) (old_slot t) (kind n) j l p e) m i k low k_low
+          on_slot (λ q z. has_at w q z k m i ≡ ((eqb t q && same_kind (kind n) m && eqb j i && eqb l k) || has_at w q (old_slot q) k m i)) x.board t s _ (in_range t in_slots)
+          (taken_hears (setting w t) (guild w) (old_slot t) (r.kept t in_slots) (kind n) j l p to (waiting_heeded (setting w t) (old_slot t) (kind n) j l p e) m i k low k_low
           ∙ sym (ap (λ b. (b && same_kind (kind n) m && eqb j i && eqb l k) || has_at w t (old_slot t) k m i) (eq-eqb t t refl)))
           (λ ne. sym (ap (λ b. (b && same_kind (kind n) m && eqb j i && eqb l k) || has_at w s (old_slot s) k m i) (ne_eqb t s ne)))
 

@@ -76,10 +76,10 @@ pub record Assured {V : Type 0} (values : Values V) (w : World) (h : History V) 
       → ((i : ℕ) × Wise w i × (held values x i s ≡ Some m)) ⊎ ((correct w (sender w s) ≡ true) × (offered values x s ≡ Some m))
       → InGuild w g → held values x g s ≡ Some m
   -- where nothing waits in any slot, the guild's nodes answer one tally for every account
-  pub one-tally :
+  pub one_tally :
       AllQuiet w x → (i j account : ℕ) → InGuild w i → InGuild w j → tally_of values w x i account ≡ tally_of values w x j account
   -- and each claim that one of them holds counts, with all of them, in exactly one slot
-  pub one-count :
+  pub one_count :
       AllQuiet w x → (s i : ℕ) (m : values.Meaning) → InGuild w i → held values x i s ≡ Some m
       → (r : ℕ) × ((q j : ℕ) → InGuild w j → (counts? values x j q && claims values (values.claim m) (held values x j q)) ≡ (q == r))
   -- what a slot's counts say of heard is the accepted hands

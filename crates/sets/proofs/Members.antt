@@ -35,7 +35,7 @@ low_members w n s lt le h =
     let low = nodes_with n (has s) in
     let same : s ≡ low = same_members w s low lt (omega (arith, nodes_with_lt n (has s), pow_mono le)) (λ k l.
     ⊎_elim
-    (λ in-n. sym (has_nodes_with n (has s) k in-n))
+    (λ in_n. sym (has_nodes_with n (has s) k in_n))
     (λ past. ⊎_elim (λ e. absurd (let b = h (suc k) e in omega arith)) (λ e. e) (cases_Bool (has s (suc k))) ∙ sym (has_high n low (suc k) (nodes_with_lt n (has s)) (omega arith)))
     (cases_lt k n)) in
     subst (λ x. x < 2 ^ n) (sym same) (nodes_with_lt n (has s))

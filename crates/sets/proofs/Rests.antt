@@ -95,11 +95,11 @@ cover_is n u x lu lx =
     same_answer (eqb (bit_or u x) (rest n 0)) (inside (rest n u) x)
     (λ e. inside_from n (rest n u) x (rest_lt n u) (λ k l h.
     let out = not-true (has u (suc k)) (sym (has_rest n u k l) ∙ h) in
-    ⊎_elim (λ in-u. absurd (both_ways (has u (suc k)) out in-u)) (λ in-x. in-x)
+    ⊎_elim (λ in_u. absurd (both_ways (has u (suc k)) out in_u)) (λ in_x. in_x)
     (or_cases (has u (suc k)) (has x (suc k)) (sym (has_or u x (suc k)) ∙ ap (λ s. has s (suc k)) (eqb-true (bit_or u x) (rest n 0) e) ∙ has_all n k l))))
     (λ e. eq-eqb (bit_or u x) (rest n 0) (same_members n (bit_or u x) (rest n 0) (or_lt n u x lu lx) (rest_lt n 0) (λ k l.
     has_or u x (suc k) ∙ ⊎_elim
-    (λ in-u. or_left (has u (suc k)) (has x (suc k)) in-u)
+    (λ in_u. or_left (has u (suc k)) (has x (suc k)) in_u)
     (λ out. or_right (has u (suc k)) (has x (suc k)) (inside_at (rest n u) x (suc k) e (has_rest n u k l ∙ not_from_false (has u (suc k)) out)))
     (cases_Bool (has u (suc k))) ∙ sym (has_all n k l))))
 

@@ -91,12 +91,12 @@ module _ (d : Draft) (before : List Record) (kept : Kept d before) (nz : d.nodes
       ∙ ap (λ m. cond (eqb (length (said Quorum (suc k) before)) 0) (map (rest m) (said FailProne (suc k) before)) (said Quorum (suc k) before)) kept.nodes
 
   pub finished : (r : Result Statement Refusal) → elim r as (λ _. Type 0) [ Ok x ↦ (unfit n d.fails qs ≡ None) × (x.nodes ≡ n) × (x.fails ≡ d.fails) × (x.quorums ≡ qs) | Err e ↦ unfit n d.fails qs ≡ Some e ] → Finished before r
-  finished (Ok x) (free, nodes-are, fails-are, quorums-are-qs) = (
+  finished (Ok x) (free, nodes_are, fails_are, quorums_are_qs) = (
     sym unfit_is ∙ free,
     record {
-      nodes = nodes-are ∙ kept.nodes;
-      fails = λ k l. let l' : k < n = omega (arith, kept.nodes) in ap (λ fs. sets_in (get_or fs k no_family)) fails-are ∙ kept.sets FailProne k (few k l');
-      quorums = λ k l. let l' : k < n = omega (arith, kept.nodes) in ap (λ fs. sets_in (get_or fs k no_family)) quorums-are-qs ∙ quorums_are k l';
+      nodes = nodes_are ∙ kept.nodes;
+      fails = λ k l. let l' : k < n = omega (arith, kept.nodes) in ap (λ fs. sets_in (get_or fs k no_family)) fails_are ∙ kept.sets FailProne k (few k l');
+      quorums = λ k l. let l' : k < n = omega (arith, kept.nodes) in ap (λ fs. sets_in (get_or fs k no_family)) quorums_are_qs ∙ quorums_are k l';
     },
   )
   finished (Err e) is = sym unfit_is ∙ is

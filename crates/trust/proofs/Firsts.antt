@@ -21,7 +21,7 @@ node_says zero p = λ k low high. absurd (omega arith)
 node_says (suc n) p = node_step n p (first_node n p) (p (suc n)) refl (node_says n p)
 
 pair_step : (m n : ℕ) (p : ℕ → ℕ → Bool) (v : PairVerdict) (r : NodeVerdict) → FirstNode n (p (suc m)) r → FirstPair m n p v → FirstPair (suc m) n p (pair_else v (with_first (suc m) r))
-pair_step m n p (FailingPair i j) r row (low, high, low-j, high-j, fails, before) = (low, omega arith, low-j, high-j, fails, before)
+pair_step m n p (FailingPair i j) r row (low, high, low_j, high_j, fails, before) = (low, omega arith, low_j, high_j, fails, before)
 pair_step m n p AllPairs AllNodes row all = λ a b la ha lb hb. ⊎_elim (λ same. ap (λ i. p i b) same ∙ row b lb hb) (λ ne. all a b la (omega arith) lb hb) (cases_eq a (suc m))
 pair_step m n p AllPairs (FailingNode j) (low, high, fails, before) all = (
   omega arith,

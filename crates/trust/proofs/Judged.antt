@@ -19,7 +19,7 @@ no_node n p (FailingNode i) (low, high, fails, before) all = absurd (both_ways (
 
 no_pair : (m n : ℕ) (p : ℕ → ℕ → Bool) (v : PairVerdict) → FirstPair m n p v → FirstPair m n p AllPairs → v ≡ AllPairs
 no_pair m n p AllPairs says all = refl
-no_pair m n p (FailingPair i j) (low, high, low-j, high-j, fails, before) all = absurd (both_ways (p i.0 j.0) fails (all i.0 j.0 low high low-j high-j))
+no_pair m n p (FailingPair i j) (low, high, low_j, high_j, fails, before) all = absurd (both_ways (p i.0 j.0) fails (all i.0 j.0 low high low_j high_j))
 
 -- all nodes by their places, from 0
 by_places : (n : ℕ) (p : ℕ → Bool) → ((k : ℕ) → k < n → p (suc k) ≡ true) → FirstNode n p AllNodes

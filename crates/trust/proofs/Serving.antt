@@ -26,7 +26,7 @@ of_union (suc m) k p e =
     let as_if : (b : Bool) → p m ≡ b → has (cond b (bit_or m u) u) (suc k) ≡ true = λ b t. ap (λ c. has (cond c (bit_or m u) u) (suc k)) (sym t) ∙ e in
     let below : has u (suc k) ≡ true → (g : ℕ) × (g < suc m) × (p g ≡ true) × (has g (suc k) ≡ true) = λ h. let (g, l, t, x) = of_union m k p h in (g, omega arith, t, x) in
     ⊎_elim
-    (λ t. ⊎_elim (λ in-m. (m, omega arith, t, in-m)) below (or_cases (has m (suc k)) (has u (suc k)) (sym (has_or m u (suc k)) ∙ as_if true t)))
+    (λ t. ⊎_elim (λ in_m. (m, omega arith, t, in_m)) below (or_cases (has m (suc k)) (has u (suc k)) (sym (has_or m u (suc k)) ∙ as_if true t)))
     (λ f. below (as_if false f))
     (cases_Bool (p m))
 

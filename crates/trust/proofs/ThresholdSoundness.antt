@@ -84,7 +84,7 @@ module _ (n f q : ℕ) where
         cx,
         inside_from n (bit_and a b) x (and_lt n a b la (or_lt n x d lx ld)) (λ j l h.
             let (in_a', in_b) = and_parts (has a (suc j)) (has b (suc j)) (sym (has_and a b (suc j)) ∙ h) in
-            ⊎_elim (λ in-x. in-x) (λ in-d. absurd (apart_at d a (suc j) apart in-d in_a')) (or_cases (has x (suc j)) (has d (suc j)) (sym (has_or x d (suc j)) ∙ in_b))),
+            ⊎_elim (λ in_x. in_x) (λ in_d. absurd (apart_at d a (suc j) apart in_d in_a')) (or_cases (has x (suc j)) (has d (suc j)) (sym (has_or x d (suc j)) ∙ in_b))),
       )
 
   enough_since : Available → Consistent → (n + f < 2 * q) × (q + f ≤ n)
