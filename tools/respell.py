@@ -1,7 +1,7 @@
 #!/usr/bin/env python3
 """Brings the repository's own antt names to today's spelling: words in snake case, types and facts in camel case.
 
-Run once, at the top, after /opt/rattle/port/port.py. It renames what specs/ and proofs/ declare with a dash between its words,
+Run once, at the top, after port.py of the kit. It renames what specs/ and proofs/ declare with a dash between its words,
 and local names there: 'nodes-with' becomes 'nodes_with', 'Came-about' becomes 'CameAbout'. Names of the library, of goals and of
 steps of the code, functions of src/, strings and comments stay. --list prints the table, and what would fall together.
 """
