@@ -28,11 +28,11 @@ use Rattle.runs.proofs.LawsLater.{entered_known, Later, later_self, later_then, 
 abbrev arrival : ℕ → ℕ → Option Place → Arrival
 arrival n j o = record { kind = kind n; from = j; value = o }
 
--- node k's record of slot s, by its arrivals-at
+-- node k's record of slot s, by its arrivals
 abbrev By : World → ℕ → ℕ → List Arrival → Record → Type 0
 By w s k ls r = RecordedBy w.trust k (sender w s) ls r
 
--- one call more; the arrivals-at is as a later state z tells it
+-- one call more; the arrivals are as a later state z tells it
 module _ {V : Type 0} (values : Values V) (w : World) (o : Opens w) (h : History V) (x : State V) (r : Reached values w h x) (z : State V)
     (old : (s k : ℕ) → correct w k ≡ true → By w s k (arrivals_at values w z s k h) (record_at (slot_at x.board s) k)) where
   abbrev old_slot : ℕ → Slot

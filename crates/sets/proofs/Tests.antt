@@ -20,7 +20,7 @@ pub implies_from : (a b : Bool) → (a ≡ true → b ≡ true) → (not a || b)
 implies_from true b h = h refl
 implies_from false b h = refl
 
--- as predicates "the test passes", for `any_below` and `all-below`
+-- as predicates "the test passes", for `any_below` and `all_below`
 abbrev Passes : (ℕ → Bool) → ℕ → Type 0
 Passes p k = p k ≡ true
 
