@@ -1,8 +1,9 @@
 -- What the operations on sets say of members, and the code's single bits. Assumes nothing.
-use Rattle.std.proofs.Common.{◌≡◌, ℕ, zero, suc, ◌+◌, ◌*◌, ◌%◌, ◌^◌, ◌<◌, ◌≤◌, Bool, true, false, not, ◌&&◌, ◌||◌, eqb, ◌⊎◌, Decides, sym, refl, ap, ◌∙◌, subst, ⊎_elim, pow-suc, arith, pow_mono}
+use Rattle.std.proofs.Common.{◌≡◌, ℕ, zero, suc, ◌+◌, ◌*◌, ◌%◌, ◌^◌, ◌<◌, ◌≤◌, Bool, true, false, not, ◌&&◌, ◌||◌, eqb, Decides, sym, refl, ap, ◌∙◌, subst, ⊎_elim, pow-suc, arith, pow_mono}
+use Rattle.std.specs.Prelude.{nat_le}
 use lib.Bits.{bit_and, bit_or, and_le_l, or_shifted_r}
 use Rattle.std.proofs.lemmas.Nat.{one_shl, pow_pos}
-use Rattle.std.proofs.lemmas.Bool.{cases_lt, cases_Bool, cases_order, eqb-true, eq-eqb, ne_eqb, lt-ltb, ltb-true, and_parts, not-true, not_from_false, both_ways}
+use Rattle.std.proofs.lemmas.Bool.{cases_lt, cases_Bool, cases_order, eqb-true, eq-eqb, ne_eqb, lt-ltb, ltb-true, leb-true, and_parts, not-true, not_from_false, both_ways}
 use Rattle.sets.specs.Sets.{node?, set?, digit, has, inside, meets, with_node, any_below, nodes_with}
 use Rattle.sets.proofs.Tests.{any_is, same_answer}
 use Rattle.sets.proofs.Digits.{digit_lt, digit_top, digit_below, and_one}
@@ -81,13 +82,14 @@ test_is s k h =
     (λ t. not_from_false (eqb x 0) (ne_eqb x 0 (λ z. omega (arith, pow_pos k, ap (λ d. d * 2 ^ k) (eqb-true (digit s k) 1 t)))))
 
 -- a number that is no node's
-pub has_out : (s k : ℕ) → s < 2 ^ 16 → (k ≡ 0) ⊎ ((k ≡ 0 → ⊥) × (16 < k)) → has s k ≡ false
+pub has_out : (s k : ℕ) → s < 2 ^ 16 → node? 16 k ≡ false → has s k ≡ false
 has_out s zero lt out = refl
-has_out s (suc k) lt out = ⊎_elim (λ z. absurd (omega arith)) (λ l. has_high 16 s (suc k) lt l.1) out
+has_out s (suc k) lt out =
+    ⊎_elim (λ l. absurd (both_ways (node? 16 (suc k)) out (node_at 16 k l))) (λ g. has_high 16 s (suc k) lt (omega arith)) (cases_lt k 16)
 
-pub in_node : (k : ℕ) → (k ≡ 0 → ⊥) → k ≤ 16 → node? 16 k ≡ true
-in_node zero ne le = absurd (ne refl)
-in_node (suc k) ne le = node_at 16 k (omega arith)
+-- the bounds of a node
+pub node_bounds : (n k : ℕ) → node? n k ≡ true → (1 ≤ k) × (k ≤ n)
+node_bounds n k e = let parts = and_parts (nat_le 1 k) (nat_le k n) e in (leb-true 1 k parts.0, leb-true k n parts.1)
 
 or_false : (b : Bool) → (b || false) ≡ b
 or_false true = refl

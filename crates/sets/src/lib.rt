@@ -4,22 +4,28 @@ ghost use Rattle.std.specs.Prelude.{◌≡◌, ℕ, ◌≤◌, min, true, not, �
 ghost use Rattle.sets.specs.Sets.{node?, set?, has, inside, meets, with_node, how_many, rest};
 
 // A node by its number. Nodes are 1 to 16; any number may be asked about.
-#[derive(Clone, Copy)]
+#[derive(Clone, Copy, PartialEq, Eq, PartialOrd, Ord, Debug)]
 pub struct Node(pub u32);
 
-// A set of nodes: node k is the bit worth 2^(k-1).
-#[derive(Clone, Copy)]
+// A set of nodes: node k is the bit worth 2^(k-1). Sets are ordered by that number.
+#[derive(Clone, Copy, PartialEq, Eq, PartialOrd, Ord, Debug)]
 pub struct NodeSet(pub u16);
+
+impl Node {
+    // One of the nodes 1 to n.
+    pub fn is_among(self, n: u32) -> bool
+        ensures { result ≡ node? n self.0 }
+    {
+        self.0 >= 1 && self.0 <= n
+    }
+}
 
 impl NodeSet {
     // The node is in the set.
     pub fn has(self, node: Node) -> bool
         ensures { result ≡ has self.0 node.0 }
     {
-        if node.0 == 0 || node.0 > 16 {
-            return false;
-        }
-        self.0 & (1 << (node.0 - 1)) != 0
+        node.is_among(16) && self.0 & (1 << (node.0 - 1)) != 0
     }
 
     // How many nodes the set has.
@@ -67,8 +73,7 @@ impl NodeSet {
         ensures value { result.0 ≡ rest (min n 16) self.0 }
         ensures members { (k : ℕ) → has result.0 k ≡ (node? (min n 16) k && not (has self.0 k)) }
     {
-        let nodes = if n < 16 { n } else { 16 };
-        let all = ((1u32 << nodes) - 1) as u16;
+        let all = ((1u32 << n.min(16)) - 1) as u16;
         NodeSet(all - (self.0 & all))
     }
 
@@ -85,7 +90,7 @@ impl NodeSet {
         ensures value { result.0 ≡ with_node self.0 node.0 }
         ensures members { (k : ℕ) → has result.0 k ≡ (has self.0 k || (node? 16 node.0 && k == node.0)) }
     {
-        if node.0 == 0 || node.0 > 16 {
+        if !node.is_among(16) {
             return self;
         }
         NodeSet(self.0 | (1 << (node.0 - 1)))
