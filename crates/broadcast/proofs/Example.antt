@@ -36,15 +36,15 @@ abbrev events : List Event
 events = propose (place 0) ∷ forge Echo 4 1 (place 1) ∷ forge Ready 4 2 (place 1) ∷ round Send (round Echo (round Ready []))
 
 is_sound : sound four ≡ true
-unfolding sound consistent available any_below all_below any_of
+unfolding sound consistent available any_below all_below
 is_sound = refl
 
 nothing_waits : waiting_count w (run w fresh_slot events) ≡ 0
-unfolding holds_quorum holds_kernel any_below all_below nodes_with any_of sum
+unfolding holds_quorum holds_kernel any_below all_below nodes_with sum
 nothing_waits = refl
 
 pub delivery : Delivery
-unfolding holds_quorum holds_kernel tolerates any_below all_below nodes_with any_of guild? union_below
+unfolding holds_quorum holds_kernel tolerates any_below all_below nodes_with guild? union_below
 delivery = record {
   setting = w;
   few = omega arith;

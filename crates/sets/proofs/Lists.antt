@@ -11,25 +11,21 @@ abbrev pub At : List ℕ → (ℕ → Bool) → ℕ → Type 0
 At xs p k = p (get_or xs k 0) ≡ true
 
 pub any_of_from : (xs : List ℕ) (p : ℕ → Bool) (k : ℕ) → k < length xs → At xs p k → any_of xs p ≡ true
-unfolding any_of
 any_of_from [] p k l e = absurd (omega arith)
 any_of_from (x ∷ xs) p zero l e = or_left (p x) (any_of xs p) e
 any_of_from (x ∷ xs) p (suc k) l e = or_right (p x) (any_of xs p) (any_of_from xs p k (omega arith) e)
 
 pub any_of_at : (xs : List ℕ) (p : ℕ → Bool) → any_of xs p ≡ true → (k : ℕ) × (k < length xs) × At xs p k
-unfolding any_of
 any_of_at [] p e = absurd (false≢true e)
 any_of_at (x ∷ xs) p e =
     ⊎_elim (λ h. (0, omega arith, h)) (λ h. let (k, l, t) = any_of_at xs p h in (suc k, omega arith, t)) (or_cases (p x) (any_of xs p) e)
 
 pub all_of_at : (xs : List ℕ) (p : ℕ → Bool) → all_of xs p ≡ true → (k : ℕ) → k < length xs → At xs p k
-unfolding all_of
 all_of_at [] p e k l = absurd (omega arith)
 all_of_at (x ∷ xs) p e zero l = (and_parts (p x) (all_of xs p) e).0
 all_of_at (x ∷ xs) p e (suc k) l = all_of_at xs p (and_parts (p x) (all_of xs p) e).1 k (omega arith)
 
 pub all_of_from : (xs : List ℕ) (p : ℕ → Bool) → ((k : ℕ) → k < length xs → At xs p k) → all_of xs p ≡ true
-unfolding all_of
 all_of_from [] p h = refl
 all_of_from (x ∷ xs) p h = and_from (p x) (all_of xs p) (h 0 (omega arith)) (all_of_from xs p (λ k l. h (suc k) (omega arith)))
 
@@ -48,7 +44,6 @@ not_both false b = refl
 
 -- some fail, where not all pass
 pub any_not : (xs : List ℕ) (p : ℕ → Bool) → any_of xs (λ x. not (p x)) ≡ not (all_of xs p)
-unfolding any_of all_of
 any_not [] p = refl
 any_not (x ∷ xs) p = ap (λ b. not (p x) || b) (any_not xs p) ∙ not_both (p x) (all_of xs p)
 

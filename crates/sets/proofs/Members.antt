@@ -1,5 +1,5 @@
 -- What the operations on sets say of members, and the code's single bits. Assumes nothing.
-use Rattle.std.proofs.Common.{◌≡◌, ℕ, zero, suc, ◌+◌, ◌*◌, ◌%◌, ◌^◌, ◌<◌, ◌≤◌, Bool, true, false, not, ◌&&◌, ◌||◌, eqb, Decides, sym, refl, ap, ◌∙◌, subst, ⊎_elim, pow-suc, arith, pow_mono}
+use Rattle.std.proofs.Common.{◌≡◌, ℕ, zero, suc, ◌+◌, ◌-◌, ◌*◌, ◌%◌, ◌^◌, ◌<◌, ◌≤◌, Bool, true, false, cond, not, ◌&&◌, ◌||◌, eqb, Decides, sym, refl, ap, ◌∙◌, subst, ⊎_elim, pow-suc, add-one, arith, pow_mono}
 use Rattle.std.specs.Prelude.{nat_le}
 use lib.Bits.{bit_and, bit_or, and_le_l, or_shifted_r}
 use Rattle.std.proofs.lemmas.Nat.{one_shl, pow_pos}
@@ -90,6 +90,11 @@ has_out s (suc k) lt out =
 -- the bounds of a node
 pub node_bounds : (n k : ℕ) → node? n k ≡ true → (1 ≤ k) × (k ≤ n)
 node_bounds n k e = let parts = and_parts (nat_le 1 k) (nat_le k n) e in (leb-true 1 k parts.0, leb-true k n parts.1)
+
+-- the node after k joins a set of the nodes 1 to k
+pub with_next : (s k : ℕ) → k < 16 → s < 2 ^ k → with_node s (k + 1) ≡ s + 1 * 2 ^ k
+with_next s k l lt =
+    ap (λ b. cond b (bit_or s (2 ^ ((k + 1) - 1))) s) (ap (node? 16) (add-one k) ∙ node_at 16 k l) ∙ ap (λ e. bit_or s (2 ^ e)) (omega arith) ∙ or_next k s lt
 
 or_false : (b : Bool) → (b || false) ≡ b
 or_false true = refl

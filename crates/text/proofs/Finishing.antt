@@ -20,7 +20,6 @@ use Rattle.text.specs.Outcomes.{none?, lacking?, end_refusal, quorums_said, Fini
 
 -- rests are sets of the nodes
 rests_fit : (n : ℕ) (xs : List ℕ) → of_nodes? n (map (rest n) xs) ≡ true
-unfolding all_of
 rests_fit n [] = refl
 rests_fit n (x ∷ xs) = and_from (ltb (rest n x) (2 ^ n)) (of_nodes? n (map (rest n) xs)) (lt-ltb (rest n x) (2 ^ n) (rest_lt n x)) (rests_fit n xs)
 

@@ -61,7 +61,6 @@ count_is n (p ∷ before) (Count c) e order = absurd (false≢true order)
 count_is n (p ∷ before) (Listed x) e order = e
 
 all_of_both : (p : ℕ → Bool) (xs ys : List ℕ) → all_of xs p ≡ true → all_of ys p ≡ true → all_of (xs ++ ys) p ≡ true
-unfolding all_of
 all_of_both p [] ys e h = h
 all_of_both p (x ∷ xs) ys e h =
     let (here, rest) = Rattle.std.proofs.lemmas.Bool.and_parts (p x) (all_of xs p) e in
@@ -69,13 +68,11 @@ all_of_both p (x ∷ xs) ys e h =
 
 -- its set fits the nodes
 own_fits : (n : ℕ) (role : Role) (i : ℕ) (e : Entry) → set? n e.set.0 ≡ true → of_nodes? n (own role i (Listed e)) ≡ true
-unfolding all_of
 own_fits n role i e fits =
     cond_both (eqb (rank role) (rank e.role) && eqb i e.node.0) (e.set.0 ∷ []) [] (λ xs. of_nodes? n xs ≡ true) (λ _. and_from (set? n e.set.0) true fits refl) (λ _. refl)
 
 fit_more : (d : Draft) (before : List Record) → Kept d before → (r : Record) → in_range? d.nodes r ≡ true → in_order? d.newest r ≡ true
     → (role : Role) (k : ℕ) → of_nodes? (count_after d.nodes r) (said role (suc k) (r ∷ before)) ≡ true
-unfolding all_of
 fit_more d [] kept (Count c) range order role k = refl
 fit_more d (p ∷ before) kept (Count c) range order role k = absurd (false≢true (ap (λ o. in_order? o (Count c)) (sym kept.newest) ∙ order))
 fit_more d before kept (Listed e) range order role k =
@@ -104,5 +101,4 @@ no_sets d x y fs qs ex ey FailProne k l = ap (λ f. sets_in (get_or f k no_famil
 no_sets d x y fs qs ex ey Quorum k l = ap (λ f. sets_in (get_or f k no_family)) qs ∙ ap sets_in (get_or-replicate 16 k y no_family l) ∙ ey
 
 pub kept_none : (d : Draft) (x y : Family) → d.nodes ≡ 0 → d.newest ≡ None → d.fails ≡ replicate 16 x → d.quorums ≡ replicate 16 y → sets_in x ≡ [] → sets_in y ≡ [] → Kept d []
-unfolding all_of
 kept_none d x y n o fs qs ex ey = record { nodes = n; newest = o; sets = no_sets d x y fs qs ex ey; fit = λ role k. refl }

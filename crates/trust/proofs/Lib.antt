@@ -6,3 +6,4 @@ pub mod Firsts
 pub mod Judged
 pub mod Fresh
 pub mod Witnessed
+pub mod Stated

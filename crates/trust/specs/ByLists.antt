@@ -30,6 +30,7 @@ leaves_open? n fs gs u = not (both_part? fs gs (rest n u))
 abbrev pub b3_row? : ℕ → List ℕ → List ℕ → ℕ → Bool
 b3_row? n fs gs a = all_of gs (λ b. leaves_open? n fs gs (bit_or a b))
 
+-- no fail-prone set of each node covers, with such a part, all n nodes
 abbrev pub b3_pair? : ℕ → List ℕ → List ℕ → Bool
 b3_pair? n fs gs = all_of fs (b3_row? n fs gs)
 

@@ -5,7 +5,8 @@ pub mod Sorting
 pub mod Serving
 pub mod Threshold
 pub mod Judging
-pub mod Families
+pub mod Padding
+pub mod NodeTrusts
 pub mod Fitting
 pub mod ByLists
 pub mod Statements

@@ -1,5 +1,5 @@
 -- The number of each refusal, and the smallest whose condition holds. Assumes nothing.
-use Rattle.std.specs.Prelude.{ℕ, Bool, cond, List, [], ◌∷◌, Some, None, Option}
+use Rattle.std.specs.Prelude.{ℕ, Bool, cond, List, [], ◌∷◌, ◌++◌, codes, decimal, Some, None, Option}
 use Rattle.trust.specs.declared.refusal.Refusal.{Refusal}
 use Rattle.trust.specs.declared.refusal.Refusal.TheVariants.{Form, Range, Order, TooMany, NoFailProneSet, SlotCount, RollSize, FaultyMask, Unsound, NoSuch, WrongParty, Unfit, OtherProposal, NotWaiting, RollFull}
 
@@ -19,6 +19,10 @@ refusal_number Unfit = 12
 refusal_number OtherProposal = 13
 refusal_number NotWaiting = 14
 refusal_number RollFull = 15
+
+-- a refusal as it is written
+abbrev pub refused_words : Refusal → List ℕ
+refused_words e = codes "refused " ++ decimal (refusal_number e)
 
 -- of a list of conditions in rising number, the refusal of the first that holds
 abbrev pub first_of : List (Bool × Refusal) → Option Refusal

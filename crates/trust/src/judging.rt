@@ -4,33 +4,14 @@ ghost use Rattle.trust.specs.Statements.{meant};
 use crate::statement::Statement;
 use sets::Node;
 
-// Every node passes, or the lowest that does not.
-#[derive(Clone, Copy)]
-pub enum NodeVerdict {
-    All,
-    FirstFailing(Node),
-}
-
-// Every pair of nodes passes, or the one with the lowest first node, and then the lowest second, that does not.
-#[derive(Clone, Copy)]
-pub enum PairVerdict {
-    All,
-    FirstFailing(Node, Node),
-}
-
 // What a statement is judged to be. The three do not depend on each other.
 #[derive(Clone, Copy)]
 pub struct Judgement {
-    pub b3: PairVerdict,
-    pub consistency: PairVerdict,
-    pub availability: NodeVerdict,
-}
-
-// What a pair of nodes is judged by.
-#[derive(Clone, Copy)]
-pub(crate) enum Demand {
-    B3,
-    Consistency,
+    // Of the pairs that do not pass, the one with the lowest first node, and then the lowest second; none where every pair passes.
+    pub b3: Option<(Node, Node)>,
+    pub consistency: Option<(Node, Node)>,
+    // The lowest node that does not pass; none where every node passes.
+    pub availability: Option<Node>,
 }
 
 impl Statement {
@@ -39,8 +20,8 @@ impl Statement {
         ensures { Judged (meant self.now) result }
     {
         Judgement {
-            b3: self.first_failing(Demand::B3),
-            consistency: self.first_failing(Demand::Consistency),
+            b3: self.first_not_b3(),
+            consistency: self.first_inconsistent(),
             availability: self.first_unavailable(),
         }
     }

@@ -2,7 +2,7 @@
 
 pub mod family;
 pub mod judging;
-mod lists;
+pub mod node_trust;
 pub mod refusal;
 pub mod rule;
 pub mod sorting;

@@ -1,5 +1,7 @@
-ghost use Rattle.std.specs.Prelude.{◌≡◌};
-ghost use Rattle.trust.specs.Refusals.{refusal_number};
+ghost use Rattle.std.specs.Prelude.{◌≡◌, Some};
+ghost use Rattle.trust.specs.Refusals.{refusal_number, refused_words};
+
+use std::fmt;
 
 // Why something is refused.
 #[derive(Clone, Copy, PartialEq, Eq, Debug)]
@@ -36,12 +38,12 @@ pub enum Refusal {
     RollFull,
 }
 
-impl Refusal {
+impl From<Refusal> for u8 {
     // The number that stands for the refusal.
-    pub fn number(self) -> u8
-        ensures { result ≡ refusal_number self }
-    {
-        match self {
+    ghost from_gives = { λ refusal number. number ≡ refusal_number refusal };
+
+    fn from(refusal: Refusal) -> u8 {
+        match refusal {
             Refusal::Form => 1,
             Refusal::Range => 2,
             Refusal::Order => 3,
@@ -58,5 +60,14 @@ impl Refusal {
             Refusal::NotWaiting => 14,
             Refusal::RollFull => 15,
         }
+    }
+}
+
+impl fmt::Display for Refusal {
+    ghost output = { λ refusal. Some (refused_words refusal) };
+
+    fn fmt<W: fmt::Write>(&self, f: &mut fmt::Formatter<W>) -> fmt::Result {
+        let number = u8::from(*self);
+        write!(f, "refused {number}")
     }
 }

@@ -43,5 +43,5 @@ pub trait TrustRule {
 pub(crate) fn in_range(n: u32, node: Node, set: NodeSet) -> bool
     ensures { result ≡ (node? n node.0 && set? n set.0) }
 {
-    node.0 >= 1 && node.0 <= n && set.fits(n)
+    node.is_among(n) && set.fits(n)
 }

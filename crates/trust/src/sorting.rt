@@ -1,8 +1,8 @@
-ghost use Rattle.std.specs.Prelude.{◌≡◌, ℕ, ◌+◌, ◌*◌, ◌^◌, ◌<◌, true, false, if◌then◌else◌, Ok, Err};
-ghost use Rattle.sets.specs.Sets.{set?};
-ghost use Rattle.trust.specs.Keeping.{keep, keep?};
+ghost use Rattle.std.specs.Prelude.{◌≡◌, ℕ, ◌≤◌, Bool, true, false, Ok, Err};
+ghost use Rattle.sets.specs.Sets.{set?, nodes_with};
+ghost use Rattle.trust.specs.Keeping.{NodesAnswerAs, keep};
 ghost use Rattle.trust.specs.Serving.{SoundServes};
-ghost use Rattle.trust.specs.Sorting.{wise?, naive?, wise_mask, naive_mask, max_guild};
+ghost use Rattle.trust.specs.Sorting.{wise_mask, naive_mask, max_guild};
 
 use crate::refusal::Refusal;
 use crate::rule::TrustRule;
@@ -16,51 +16,29 @@ pub struct Sorted {
     pub guild: NodeSet,
 }
 
-// A set of the nodes 1 to k, and node k + 1 where it is a member.
-fn with_next(set: NodeSet, k: u32, member: bool) -> NodeSet
-    requires { (k < 16) × (set.0 < 2 ^ k) }
-    ensures { result.0 ≡ set.0 + (if member then 1 else 0) * 2 ^ k }
+// Those of the nodes 1 to n that pass.
+fn nodes_where<F: Fn(Node) -> bool>(n: u32, passes: F) -> NodeSet
+    requires few { n ≤ 16 }
+    requires callable { F.IsAlwaysCallable passes }
+    ensures { (p : ℕ → Bool) → NodesAnswerAs F.Fn passes p → result.0 ≡ nodes_with n p }
 {
-    if member { set.with(Node(k + 1)) } else { set }
-}
-
-// Node k + 1 is a member of the set and holds a quorum inside it.
-fn stays<R: TrustRule>(rule: &R, set: NodeSet, k: u32) -> bool
-    requires { k < 16 }
-    ensures { result ≡ keep? (R.meaning rule.now) set.0 (k + 1) }
-{
-    let node = Node(k + 1);
-    set.has(node) && rule.holds_quorum(node, set)
+    let mut nodes = NodeSet(0);
+    for k in 0..n {
+        let node = Node(k + 1);
+        if passes(node) {
+            nodes = nodes.with(node);
+        }
+    }
+    nodes
 }
 
 // Those members of the set that hold a quorum inside it.
 fn kept<R: TrustRule>(rule: &R, set: NodeSet) -> NodeSet
     ensures { result.0 ≡ keep (R.meaning rule.now) set.0 }
 {
-    let mut rest = NodeSet(0);
-    let size = rule.size();
-    for k in 0..size {
-        rest = with_next(rest, k, stays(rule, set, k));
-    }
-    rest
-}
-
-// Node k + 1 is correct and tolerates the faulty set.
-fn is_wise<R: TrustRule>(rule: &R, faulty: NodeSet, k: u32) -> bool
-    requires { k < 16 }
-    ensures { result ≡ wise? (R.meaning rule.now) faulty.0 (k + 1) }
-{
-    let node = Node(k + 1);
-    !faulty.has(node) && rule.tolerated(node, faulty)
-}
-
-// Node k + 1 is correct and does not.
-fn is_naive<R: TrustRule>(rule: &R, faulty: NodeSet, k: u32) -> bool
-    requires { k < 16 }
-    ensures { result ≡ naive? (R.meaning rule.now) faulty.0 (k + 1) }
-{
-    let node = Node(k + 1);
-    !faulty.has(node) && !rule.tolerated(node, faulty)
+    nodes_where(rule.size(), |node| {
+        set.has(node) && rule.holds_quorum(node, set)
+    })
 }
 
 // What is left of the wise nodes when nobody is left out any more.
@@ -69,7 +47,7 @@ fn largest_guild<R: TrustRule>(rule: &R, wise: NodeSet) -> NodeSet
 {
     let mut guild = wise;
     let mut next = kept(rule, guild);
-    while next.0 != guild.0 {
+    while next != guild {
         guild = next;
         next = kept(rule, guild);
     }
@@ -85,12 +63,12 @@ pub fn sort<R: TrustRule>(rule: &R, faulty: NodeSet) -> Result<Sorted, Refusal>
     if !faulty.fits(size) {
         return Err(Refusal::FaultyMask);
     }
-    let mut wise = NodeSet(0);
-    let mut naive = NodeSet(0);
-    for k in 0..size {
-        wise = with_next(wise, k, is_wise(rule, faulty, k));
-        naive = with_next(naive, k, is_naive(rule, faulty, k));
-    }
+    let wise = nodes_where(size, |node| {
+        !faulty.has(node) && rule.tolerated(node, faulty)
+    });
+    let naive = nodes_where(size, |node| {
+        !faulty.has(node) && !rule.tolerated(node, faulty)
+    });
     let guild = largest_guild(rule, wise);
     Ok(Sorted { wise, naive, guild })
 }

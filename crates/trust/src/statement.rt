@@ -1,17 +1,21 @@
-ghost use Rattle.std.specs.Prelude.{◌≡◌, ◌≤◌, true};
+ghost use Rattle.std.specs.Prelude.{◌≡◌, ◌≤◌, true, length};
 ghost use Rattle.trust.specs.Fitting.{in_range?, some_each?};
 
-use crate::family::Family;
+use crate::node_trust::NodeTrust;
 
 pub mod listed;
 mod making;
 mod searching;
 
-// What each node trusts: its fail-prone sets and its quorums. Those of node k stand at k - 1.
+// What each node trusts: node k's trust stands at k - 1.
+// The array is fixed, since a C host has no allocator.
 #[derive(Clone, Copy)]
 pub struct Statement {
     nodes: u32,
-    fails: [Family; 16],
-    quorums: [Family; 16],
-    ghost ok: { (1 ≤ nodes) × (nodes ≤ 16) × (in_range? nodes fails ≡ true) × (in_range? nodes quorums ≡ true) × (some_each? nodes fails ≡ true) },
+    trust: [NodeTrust; 16],
+    ghost places: { length trust ≡ 16 },
+    ghost some: { 1 ≤ nodes },
+    ghost few: { nodes ≤ 16 },
+    ghost in_range: { in_range? nodes trust ≡ true },
+    ghost each_fails: { some_each? nodes trust ≡ true },
 }

@@ -12,7 +12,7 @@ use Rattle.samples.specs.Samples.{Samples}
 use Rattle.samples.proofs.sample_count.Goals as goal
 
 table : Samples
-unfolding any_below all_below nodes_with any_of all_of holds_quorum tolerates b3 guild? union_below first_node first_pair ones ones_in count_below
+unfolding any_below all_below nodes_with holds_quorum tolerates b3 guild? union_below first_node first_pair ones ones_in count_below
 table = record {
   s1 = record { wise_is = refl; naive_is = refl; guild_is = refl };
   s2 = record { wise_is = refl; naive_is = refl; guild_is = refl };

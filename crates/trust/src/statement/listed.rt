@@ -3,18 +3,27 @@ ghost use Rattle.std.proofs.Common.{arith, rules};
 ghost use Rattle.std.proofs.lemmas.Bool.{ltb-true, eq-eqb, eqb-true, lt-ltb};
 ghost use Rattle.sets.proofs.Sets.{inside_le, no_node, node_low};
 ghost use Rattle.trust.specs.Soundness.{part_down};
-ghost use Rattle.std.specs.Prelude.{zero, suc, ◌^◌, bit_and, nat_eq, slice_index};
+ghost use Rattle.trust.specs.NodeTrusts.{trust_at};
+ghost use Rattle.std.specs.Prelude.{◌≡◌, ◌≤◌, zero, suc, ◌^◌, bit_and, nat_eq, slice_index};
 ghost use Rattle.std.specs.Int.Bits.{and_zero_l};
 ghost use Rattle.sets.specs.Sets.{inside};
 ghost use Rattle.sets.proofs.Lists.{any_of_from, any_of_at, listed_lt};
 ghost use Rattle.trust.specs.Fits.{some_fail, fails_fit, quorums_fit};
 
-use crate::family::building::sets_at;
-use crate::judging::{Demand, NodeVerdict, PairVerdict};
-use crate::lists::{all_meet, is_part, some_inside};
+use crate::node_trust::NodeTrust;
 use crate::rule::{TrustRule, in_range};
 use crate::statement::Statement;
 use sets::{Node, NodeSet};
+
+impl Statement {
+    // What a node trusts.
+    fn of(&self, node: Node) -> &NodeTrust
+        requires { (1 ≤ node.0) × (node.0 ≤ 16) }
+        ensures { result.now ≡ trust_at self.now.trust node.0 }
+    {
+        &self.trust[(node.0 - 1) as usize]
+    }
+}
 
 impl TrustRule for Statement {
     ghost meaning = { meant };
@@ -52,24 +61,18 @@ impl TrustRule for Statement {
     }
 
     fn holds_quorum(&self, node: Node, set: NodeSet) -> bool {
-        in_range(self.nodes, node, set) && some_inside(sets_at(&self.quorums, node.0 - 1), set)
+        in_range(self.nodes, node, set) && self.of(node).quorums.has_inside(set)
     }
 
     fn holds_kernel(&self, node: Node, set: NodeSet) -> bool {
-        in_range(self.nodes, node, set) && all_meet(sets_at(&self.quorums, node.0 - 1), set)
+        in_range(self.nodes, node, set) && self.of(node).quorums.all_meet(set)
     }
 
     fn tolerated(&self, node: Node, set: NodeSet) -> bool {
-        in_range(self.nodes, node, set) && is_part(sets_at(&self.fails, node.0 - 1), set)
+        in_range(self.nodes, node, set) && self.of(node).fails.has_around(set)
     }
 
     fn sound(&self) -> bool {
-        if let NodeVerdict::FirstFailing(_) = self.first_unavailable() {
-            return false;
-        }
-        match self.first_failing(Demand::Consistency) {
-            PairVerdict::All => true,
-            PairVerdict::FirstFailing(_, _) => false,
-        }
+        self.first_unavailable().is_none() && self.first_inconsistent().is_none()
     }
 }

@@ -1,84 +1,56 @@
-ghost use Rattle.std.specs.Prelude.{◌≡◌, ◌≤◌, true, [], ◌∷◌, Some, None, Ok, Err};
-ghost use Rattle.sets.specs.Lists.{of_nodes?};
-ghost use Rattle.trust.specs.Families.{at_node};
-ghost use Rattle.trust.specs.Fitting.{in_range?, some_each?, unfit};
+ghost use Rattle.std.specs.Prelude.{◌≡◌, true, [], ◌∷◌, length, Some, None, Ok, Err, nat_lt};
+ghost use Rattle.std.specs.List.{list_all};
+ghost use Rattle.trust.specs.Fitting.{unfit};
+ghost use Rattle.trust.specs.NodeTrusts.{fits?};
 ghost use Rattle.trust.specs.Statements.{fail_sets, quorum_sets, meant};
 ghost use Rattle.trust.specs.Trust.{sound};
 ghost use Rattle.trust.specs.Witness.{Witnesses};
 
 use crate::family::Family;
-use crate::family::building::sets_at;
+use crate::node_trust::NodeTrust;
 use crate::refusal::Refusal;
 use crate::statement::Statement;
-use sets::NodeSet;
+use sets::{Node, NodeSet};
 
-// No set of the list has a bit above n.
-fn are_sets(n: u32, masks: &[u16]) -> bool
-    ensures { result ≡ of_nodes? n masks.now }
+// That set alone.
+fn only(set: NodeSet) -> Family
+    ensures { result ≡ set.0 ∷ [] }
 {
-    for mask in masks {
-        if !NodeSet(*mask).fits(n) {
-            return false;
-        }
-    }
-    true
+    let mut family = Family::empty();
+    family.push(set).unwrap();
+    family
 }
 
-// No set of a node 1 to n has a bit above n.
-fn are_in_range(n: u32, families: &[Family; 16]) -> bool
-    requires { n ≤ 16 }
-    ensures { result ≡ in_range? n families.now }
+// No set that they trust has a bit above n.
+fn all_fit(stated: &[NodeTrust], n: u32) -> bool
+    ensures { result ≡ list_all (fits? n) stated.now }
 {
-    for k in 0..n {
-        if !are_sets(n, sets_at(families, k)) {
-            return false;
-        }
-    }
-    true
+    stated.iter().all(|t| t.fits(n))
 }
 
-// Each node 1 to n has a set.
-fn has_some_each(n: u32, families: &[Family; 16]) -> bool
-    requires { n ≤ 16 }
-    ensures { result ≡ some_each? n families.now }
+// Each has a fail-prone set.
+fn all_prepared(stated: &[NodeTrust]) -> bool
+    ensures { result ≡ list_all (λ t. nat_lt 0 (length t.fails)) stated.now }
 {
-    for k in 0..n {
-        if sets_at(families, k).is_empty() {
-            return false;
-        }
-    }
-    true
-}
-
-// Node 1 has that set alone.
-fn only_first(set: NodeSet) -> [Family; 16]
-    ensures { at_node result 1 ≡ set.0 ∷ [] }
-{
-    let mut families = [Family::empty(); 16];
-    let _ = families[0].push(set);
-    families
+    stated.iter().all(|t| !t.fails.is_empty())
 }
 
 impl Statement {
-    // A statement by lists, where they fit.
-    pub fn new(nodes: u32, fails: [Family; 16], quorums: [Family; 16]) -> Result<Statement, Refusal>
-        ensures { elim result [ Ok x ↦ (unfit nodes fails quorums ≡ None) × (x.nodes ≡ nodes) × (x.fails ≡ fails) × (x.quorums ≡ quorums) | Err e ↦ unfit nodes fails quorums ≡ Some e ] }
+    // A statement by what its nodes trust, where that fits.
+    pub fn new(nodes: u32, trust: [NodeTrust; 16]) -> Result<Statement, Refusal>
+        ensures { elim result [ Ok x ↦ (unfit nodes trust ≡ None) × (x.nodes ≡ nodes) × (x.trust ≡ trust) | Err e ↦ unfit nodes trust ≡ Some e ] }
     {
-        if nodes == 0
-            || nodes > 16
-            || !are_in_range(nodes, &fails)
-            || !are_in_range(nodes, &quorums)
-        {
+        if !Node(nodes).is_among(16) {
             return Err(Refusal::Range);
         }
-        if !has_some_each(nodes, &fails) {
+        let stated = &trust[..nodes as usize];
+        if !all_fit(stated, nodes) {
+            return Err(Refusal::Range);
+        }
+        if !all_prepared(stated) {
             return Err(Refusal::NoFailProneSet);
         }
-        Ok(Statement {
-            nodes,
-            fails,
-            quorums,
-        })
+        Ok(Statement { nodes, trust })
     }
 
     // One node that trusts itself: its fail-prone set is empty, and its quorum is the node.
@@ -87,10 +59,11 @@ impl Statement {
         ensures sound { sound (meant result) ≡ true }
         ensures witnesses { Witnesses }
     {
-        Statement {
-            nodes: 1,
-            fails: only_first(NodeSet(0)),
-            quorums: only_first(NodeSet(1)),
-        }
+        let mut trust = [NodeTrust::nothing(); 16];
+        trust[0] = NodeTrust {
+            fails: only(NodeSet(0)),
+            quorums: only(NodeSet(1)),
+        };
+        Statement { nodes: 1, trust }
     }
 }

@@ -1,89 +1,81 @@
-ghost use Rattle.std.specs.Prelude.{◌≡◌, suc, ◌<◌};
-ghost use Rattle.trust.specs.Judging.{b3, demanded, first_node, first_pair};
+ghost use Rattle.std.specs.Prelude.{◌≡◌, ◌+◌, ◌<◌, ◌≤◌, Bool, take, length, not};
+ghost use Rattle.trust.specs.Judging.{b3, first_node, first_pair};
+ghost use Rattle.trust.specs.NodeTrusts.{trust_at, AnswersAs};
 ghost use Rattle.trust.specs.Statements.{meant};
 ghost use Rattle.trust.specs.Trust.{consistent, available};
 
-use crate::family::building::sets_at;
-use crate::judging::{Demand, NodeVerdict, PairVerdict};
-use crate::lists::{is_available, is_b3, is_consistent};
+use crate::node_trust::NodeTrust;
 use crate::statement::Statement;
 use sets::Node;
 
+// The node at a place, which is counted from 0.
+fn node_at(place: usize) -> Node
+    requires { place < 16 }
+    ensures { result.0 ≡ place + 1 }
+{
+    Node(place as u32 + 1)
+}
+
 impl Statement {
-    // The nodes k + 1 and j + 1 meet B3.
-    fn is_b3_pair(&self, k: u32, j: u32) -> bool
-        requires { (k < self.now.nodes) × (j < self.now.nodes) }
-        ensures { result ≡ b3 (meant self.now) (suc k) (suc j) }
+    // What each of its nodes trusts.
+    fn stated(&self) -> &[NodeTrust]
+        ensures list { result.now ≡ take self.now.nodes self.now.trust }
+        ensures all { length result.now ≡ self.now.nodes }
     {
-        is_b3(self.nodes, sets_at(&self.fails, k), sets_at(&self.fails, j))
+        &self.trust[..self.nodes as usize]
     }
 
-    // The nodes k + 1 and j + 1 are consistent.
-    fn is_consistent_pair(&self, k: u32, j: u32) -> bool
-        requires { (k < self.now.nodes) × (j < self.now.nodes) }
-        ensures { result ≡ consistent (meant self.now) (suc k) (suc j) }
+    // The lowest node that fails the test with what a node trusts.
+    fn first_with<F: Fn(&NodeTrust, &NodeTrust) -> bool>(
+        &self,
+        ours: &NodeTrust,
+        passes: &F,
+    ) -> Option<Node>
+        requires { F.IsAlwaysCallable passes.now }
+        ensures { (p : NodeTrust → NodeTrust → Bool) → AnswersAs F.Fn passes.now p → result ≡ first_node self.now.nodes (λ j. p ours.now (trust_at self.now.trust j)) }
     {
-        is_consistent(
-            sets_at(&self.fails, k),
-            sets_at(&self.fails, j),
-            sets_at(&self.quorums, k),
-            sets_at(&self.quorums, j),
-        )
-    }
-
-    // Node k + 1 is available.
-    fn is_available_node(&self, k: u32) -> bool
-        requires { k < self.now.nodes }
-        ensures { result ≡ available (meant self.now) (suc k) }
-    {
-        is_available(sets_at(&self.fails, k), sets_at(&self.quorums, k))
-    }
-
-    // The nodes k + 1 and j + 1 meet the demand.
-    fn meets_demand(&self, demand: Demand, k: u32, j: u32) -> bool
-        requires { (k < self.now.nodes) × (j < self.now.nodes) }
-        ensures { result ≡ demanded demand (meant self.now) (suc k) (suc j) }
-    {
-        match demand {
-            Demand::B3 => self.is_b3_pair(k, j),
-            Demand::Consistency => self.is_consistent_pair(k, j),
-        }
-    }
-
-    // The lowest node that fails the demand with node k + 1.
-    fn first_with(&self, demand: Demand, k: u32) -> NodeVerdict
-        requires { k < self.now.nodes }
-        ensures { result ≡ first_node self.now.nodes (demanded demand (meant self.now) (suc k)) }
-    {
-        for j in 0..self.nodes {
-            if !self.meets_demand(demand, k, j) {
-                return NodeVerdict::FirstFailing(Node(j + 1));
+        for (j, theirs) in self.stated().iter().enumerate() {
+            if !passes(ours, theirs) {
+                return Some(node_at(j));
             }
         }
-        NodeVerdict::All
+        None
     }
 
-    // The first pair that fails the demand.
-    pub(crate) fn first_failing(&self, demand: Demand) -> PairVerdict
-        ensures { result ≡ first_pair self.now.nodes self.now.nodes (demanded demand (meant self.now)) }
+    // The pair that fails the test with the lowest first node, and then the lowest second.
+    fn first_pair<F: Fn(&NodeTrust, &NodeTrust) -> bool>(&self, passes: F) -> Option<(Node, Node)>
+        requires { F.IsAlwaysCallable passes }
+        ensures { (p : NodeTrust → NodeTrust → Bool) → AnswersAs F.Fn passes p → result ≡ first_pair self.now.nodes self.now.nodes (λ i j. p (trust_at self.now.trust i) (trust_at self.now.trust j)) }
     {
-        for k in 0..self.nodes {
-            if let NodeVerdict::FirstFailing(node) = self.first_with(demand, k) {
-                return PairVerdict::FirstFailing(Node(k + 1), node);
+        for (i, ours) in self.stated().iter().enumerate() {
+            if let Some(node) = self.first_with(ours, &passes) {
+                return Some((node_at(i), node));
             }
         }
-        PairVerdict::All
+        None
+    }
+
+    // The first pair that does not meet B3.
+    pub(crate) fn first_not_b3(&self) -> Option<(Node, Node)>
+        ensures { result ≡ first_pair self.now.nodes self.now.nodes (b3 (meant self.now)) }
+    {
+        self.first_pair(|ours, theirs| ours.is_b3_with(theirs, self.nodes))
+    }
+
+    // The first pair that is not consistent.
+    pub(crate) fn first_inconsistent(&self) -> Option<(Node, Node)>
+        ensures { result ≡ first_pair self.now.nodes self.now.nodes (consistent (meant self.now)) }
+    {
+        self.first_pair(|ours, theirs| ours.is_consistent_with(theirs))
     }
 
     // The lowest node that is not available.
-    pub(crate) fn first_unavailable(&self) -> NodeVerdict
+    pub(crate) fn first_unavailable(&self) -> Option<Node>
         ensures { result ≡ first_node self.now.nodes (available (meant self.now)) }
     {
-        for k in 0..self.nodes {
-            if !self.is_available_node(k) {
-                return NodeVerdict::FirstFailing(Node(k + 1));
-            }
-        }
-        NodeVerdict::All
+        self.stated()
+            .iter()
+            .position(|t| !t.is_available())
+            .map(node_at)
     }
 }

@@ -1,7 +1,6 @@
 use Rattle.std.proofs.Common.{◌≡◌, min, map, take}
 use Rattle.sets.specs.Sets.{rest}
-use Rattle.trust.specs.Families.{sets_in}
 use Rattle.trust.proofs.family.Family.rests.Given as goal
 
 abbrev pub invariant-loop-mask : goal.invariant-loop-mask
-invariant-loop-mask l = sets_in l.rests ≡ map (rest (min l.n 16)) (take l.mask-index (sets_in l.self))
+invariant-loop-mask l = l.rests ≡ map (rest (min l.n 16)) (take l.mask-index l.self)
