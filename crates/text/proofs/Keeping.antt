@@ -1,11 +1,13 @@
 -- A draft that holds what the records before say judges the next one as they do, and holds one more after it.
-use Rattle.std.proofs.Common.{◌≡◌, ℕ, suc, ◌-◌, ◌^◌, ◌<◌, Bool, true, false, cond, not, ◌&&◌, eqb, ltb, leb, List, [], ◌∷◌, ◌++◌, length, get_or, replicate, Some, None, Option, sym, refl, ap, ◌∙◌, subst, ap₂, arith}
+use Rattle.std.proofs.Common.{◌≡◌, ℕ, suc, ◌-◌, ◌^◌, Bool, true, false, cond, not, ◌&&◌, eqb, ltb, leb, List, [], ◌∷◌, ◌++◌, length, get_or, replicate, Some, None, Ok, Err, Option, Result, sym, refl, ap, ◌∙◌, subst, ap₂, arith}
 use Rattle.std.proofs.lemmas.List.{get_or-replicate}
+use Rattle.std.specs.Prelude.{is_ok, OnOk, IfErr}
+use Rattle.std.proofs.lemmas.Option.{none-some}
+use Rattle.std.proofs.lemmas.Bool.Decides.{nat_tests}
 use Rattle.std.proofs.lemmas.Bool.{and_from, false≢true, true≢false, cond_both}
 use Rattle.sets.specs.Sets.{set?}
 use Rattle.sets.specs.Lists.{all_of, of_nodes?}
-use Rattle.trust.specs.declared.family.Family.{Family}
-use Rattle.trust.specs.Families.{sets_in, no_family}
+use Rattle.trust.specs.NodeTrusts.{nothing}
 use Rattle.trust.specs.declared.refusal.Refusal.{Refusal}
 use Rattle.trust.specs.declared.refusal.Refusal.TheVariants.{Range, Order, TooMany}
 use Rattle.trust.specs.Refusals.{first_of}
@@ -16,8 +18,9 @@ use Rattle.text.specs.declared.record.Entry.{Entry}
 use Rattle.text.specs.declared.record.Record.{Record}
 use Rattle.text.specs.declared.record.Record.TheVariants.{Count, Listed}
 use Rattle.text.specs.Reading.{rank, in_range?, in_order?, refusal_of, newest_of, count_said, own, said, listed_before, admitted, judged, line_says}
+use Rattle.text.specs.Lines.{LineOf}
 use Rattle.text.specs.Records.{record_of}
-use Rattle.text.specs.Drafts.{sets_at, held, count_after, Noted, Kept}
+use Rattle.text.specs.Drafts.{of_role, held, count_after, placed, Noted, Kept, Taken}
 use Rattle.text.proofs.Records.{entry_fits}
 
 -- the three conditions of a record's refusal
@@ -30,10 +33,30 @@ last_counts true true z v h = ap (three true true) (h refl refl)
 last_counts true false z v h = refl
 last_counts false y z v h = refl
 
-none_holds : (x y z : Bool) → three x y z ≡ None → (x ≡ true) × (y ≡ true)
-none_holds true true z e = (refl, refl)
-none_holds true false z e = absurd (let q : ◌≡◌ {A = ℕ} 0 1 = cc in omega arith)
-none_holds false y z e = absurd (let q : ◌≡◌ {A = ℕ} 0 1 = cc in omega arith)
+three_of : (o : Bool) → three true true o ≡ cond o (Some TooMany) None
+three_of true = refl
+three_of false = refl
+
+-- where a record stands by the first two
+abbrev refusal_in : Result (Unit {0}) Refusal → Option Refusal
+refusal_in (Ok _) = None
+refusal_in (Err e) = Some e
+
+abbrev two : Bool → Bool → Result (Unit {0}) Refusal
+two x y = cond x (cond y (Ok tt) (Err Order)) (Err Range)
+
+misplaced : (x y z : Bool) (e : Refusal) → two x y ≡ Err e → three x y z ≡ Some e
+misplaced true true z e is = absurd (none-some e (ap refusal_in is))
+misplaced true false z e is = ap refusal_in is
+misplaced false y z e is = ap refusal_in is
+
+both_hold : (x y : Bool) → two x y ≡ Ok tt → (x ≡ true) × (y ≡ true)
+both_hold true true is = (refl, refl)
+both_hold true false is = absurd (none-some Order (sym (ap refusal_in is)))
+both_hold false y is = absurd (none-some Range (sym (ap refusal_in is)))
+
+pub placed_fits : (n : ℕ) (newest : Option Record) (r : Record) → placed n newest r ≡ Ok tt → (in_range? n r ≡ true) × (in_order? newest r ≡ true)
+placed_fits n newest r e = both_hold (in_range? n r) (in_order? newest r) e
 
 module _ (d : Draft) (before : List Record) (kept : Kept d before) where
   -- as many sets of its role
@@ -41,17 +64,28 @@ module _ (d : Draft) (before : List Record) (kept : Kept d before) where
   held_is (Count n) range order = refl
   held_is (Listed e) range order =
       let i = e.node.0 in
-      let (low, high, _) = entry_fits d.nodes d.newest e d.counted.0 d.counted.1 range order in
+      let (low, high, _) = entry_fits d.nodes d.newest e d.few d.begun range order in
       ap length (kept.sets e.role (i - 1) (omega arith) ∙ ap (λ j. said e.role j before) (omega arith))
 
-  pub refusal_is : (r : Record) → refusal_of d.nodes d.newest (held d r) r ≡ refusal_of (count_said before) (newest_of before) (listed_before r before) r
-  refusal_is r =
+  same_refusal : (r : Record) → refusal_of d.nodes d.newest (held d r) r ≡ refusal_of (count_said before) (newest_of before) (listed_before r before) r
+  same_refusal r =
       last_counts (in_range? d.nodes r) (in_order? d.newest r) (leb 16 (held d r)) (leb 16 (listed_before r before)) (λ range order. ap (leb 16) (held_is r range order))
       ∙ ap₂ (λ n newest. refusal_of n newest (listed_before r before) r) kept.nodes kept.newest
 
--- what is admitted is in range and in order
-admitted_fits : (n : ℕ) (newest : Option Record) (listed : ℕ) (r : Record) → refusal_of n newest listed r ≡ None → (in_range? n r ≡ true) × (in_order? newest r ≡ true)
-admitted_fits n newest listed r e = none_holds (in_range? n r) (in_order? newest r) (leb 16 listed) e
+  -- the refusal of a record that is misplaced, that has no room, and that is taken
+  pub misplaced_is : (r : Record) (e : Refusal) → placed d.nodes d.newest r ≡ Err e → refusal_of (count_said before) (newest_of before) (listed_before r before) r ≡ Some e
+  misplaced_is r e is = sym (same_refusal r) ∙ misplaced (in_range? d.nodes r) (in_order? d.newest r) (leb 16 (held d r)) e is
+
+  room_is : (r : Record) (o : Bool) → placed d.nodes d.newest r ≡ Ok tt → leb 16 (held d r) ≡ o → refusal_of (count_said before) (newest_of before) (listed_before r before) r ≡ cond o (Some TooMany) None
+  room_is r o is full =
+      let (range, order) = placed_fits d.nodes d.newest r is in
+      sym (same_refusal r) ∙ ap₂ (λ x y. three x y (leb 16 (held d r))) range order ∙ ap (three true true) full ∙ three_of o
+
+  pub full_is : (r : Record) → placed d.nodes d.newest r ≡ Ok tt → false ≡ ltb (held d r) 16 → refusal_of (count_said before) (newest_of before) (listed_before r before) r ≡ Some TooMany
+  full_is r is no_room = room_is r true is (grind (arith, nat_tests, no_room))
+
+  pub free_is : (r : Record) → placed d.nodes d.newest r ≡ Ok tt → true ≡ ltb (held d r) 16 → refusal_of (count_said before) (newest_of before) (listed_before r before) r ≡ None
+  free_is r is room = room_is r false is (grind (arith, nat_tests, room))
 
 -- the count is the first record's
 count_is : (n : ℕ) (before : List Record) (r : Record) → n ≡ count_said before → in_order? (newest_of before) r ≡ true → count_after n r ≡ count_said (r ∷ before)
@@ -76,12 +110,12 @@ fit_more : (d : Draft) (before : List Record) → Kept d before → (r : Record)
 fit_more d [] kept (Count c) range order role k = refl
 fit_more d (p ∷ before) kept (Count c) range order role k = absurd (false≢true (ap (λ o. in_order? o (Count c)) (sym kept.newest) ∙ order))
 fit_more d before kept (Listed e) range order role k =
-    let (_, _, fits) = entry_fits d.nodes d.newest e d.counted.0 d.counted.1 range order in
+    let (_, _, fits) = entry_fits d.nodes d.newest e d.few d.begun range order in
     all_of_both (λ x. ltb x (2 ^ d.nodes)) (said role (suc k) before) (own role (suc k) (Listed e)) (kept.fit role k) (own_fits d.nodes role (suc k) e fits)
 
-pub kept_more : (d d' : Draft) (before : List Record) (r : Record) → Kept d before → refusal_of d.nodes d.newest (held d r) r ≡ None → Noted d r d' → Kept d' (r ∷ before)
-kept_more d d' before r kept free noted =
-    let (range, order) = admitted_fits d.nodes d.newest (held d r) r free in
+pub kept_more : (d d' : Draft) (before : List Record) (r : Record) → Kept d before → placed d.nodes d.newest r ≡ Ok tt → Noted d r d' → Kept d' (r ∷ before)
+kept_more d d' before r kept is noted =
+    let (range, order) = placed_fits d.nodes d.newest r is in
     record {
       nodes = noted.nodes ∙ count_is d.nodes before r kept.nodes (ap (λ o. in_order? o r) (sym kept.newest) ∙ order);
       newest = noted.newest;
@@ -96,9 +130,22 @@ line_comes_to before bytes ended r o t is e =
     ap (λ b. judged before (cond b (record_of bytes) None)) t ∙ ap (judged before) (sym is) ∙ ap (admitted r) e
 
 -- a draft with no record
-no_sets : (d : Draft) (x y : Family) → d.fails ≡ replicate 16 x → d.quorums ≡ replicate 16 y → sets_in x ≡ [] → sets_in y ≡ [] → (role : Role) (k : ℕ) → k < 16 → sets_at d role k ≡ []
-no_sets d x y fs qs ex ey FailProne k l = ap (λ f. sets_in (get_or f k no_family)) fs ∙ ap sets_in (get_or-replicate 16 k x no_family l) ∙ ex
-no_sets d x y fs qs ex ey Quorum k l = ap (λ f. sets_in (get_or f k no_family)) qs ∙ ap sets_in (get_or-replicate 16 k y no_family l) ∙ ey
+empty : (role : Role) → of_role role nothing ≡ []
+empty FailProne = refl
+empty Quorum = refl
 
-pub kept_none : (d : Draft) (x y : Family) → d.nodes ≡ 0 → d.newest ≡ None → d.fails ≡ replicate 16 x → d.quorums ≡ replicate 16 y → sets_in x ≡ [] → sets_in y ≡ [] → Kept d []
-kept_none d x y n o fs qs ex ey = record { nodes = n; newest = o; sets = no_sets d x y fs qs ex ey; fit = λ role k. refl }
+pub kept_none : (d : Draft) → d.nodes ≡ 0 → d.newest ≡ None → d.trust ≡ replicate 16 nothing → Kept d []
+kept_none d n o ts = record { nodes = n; newest = o; sets = λ role k l. ap (λ ts. of_role role (get_or ts k nothing)) ts ∙ ap (of_role role) (get_or-replicate 16 k nothing nothing l) ∙ empty role; fit = λ role k. refl }
+
+-- what came of a line, by what came of its record
+pub taken_err : (before : List Record) (l : LineOf) (d : Draft) (res : Result (Unit {0}) Refusal) (e : Refusal) → res ≡ Err e → line_says before l ≡ Err e → Kept d before → Taken before l res d
+taken_err before l d res e is says kept = subst (λ r. Taken before l r d) (sym is) (says, kept)
+
+pub taken_by : (d d' : Draft) (before : List Record) (r : Record) (bytes : List ℕ) (ended : Bool) → Kept d before → ended ≡ true → Some r ≡ record_of bytes → placed d.nodes d.newest r ≡ Ok tt
+    → (res : Result (Unit {0}) Refusal) → is_ok res ≡ ltb (held d r) 16 → OnOk res (Noted d r d') → IfErr res (λ x. (x ≡ TooMany) × (d' ≡ d)) → Taken before (record { bytes = bytes; ended = ended }) res d'
+taken_by d d' before r bytes ended kept t is at (Ok u) room noted full =
+    (r, line_comes_to before bytes ended r None t is (free_is d before kept r at room), kept_more d d' before r kept at noted)
+taken_by d d' before r bytes ended kept t is at (Err e) room noted (many, same) = (
+  line_comes_to before bytes ended r (Some TooMany) t is (full_is d before kept r at room) ∙ ap Err (sym many),
+  subst (λ x. Kept x before) (sym same) kept,
+)

@@ -1,4 +1,5 @@
 pub mod Cutting
+pub mod Faults
 pub mod Records
 pub mod Keeping
 pub mod Finishing

@@ -9,12 +9,7 @@ use sets::{Node, NodeSet};
 pub(crate) fn run_before(bytes: &[u8], stop: u8) -> usize
     ensures { (result ≡ run_before stop bytes.now) × (result ≤ length bytes.now) }
 {
-    for (i, b) in bytes.iter().enumerate() {
-        if *b == stop {
-            return i;
-        }
-    }
-    bytes.len()
+    bytes.iter().take_while(|b| **b != stop).count()
 }
 
 // The bytes before the first tab.
@@ -22,7 +17,7 @@ fn first_field(bytes: &[u8]) -> &[u8]
     ensures { result.now ≡ first_field bytes.now }
 {
     let end = run_before(bytes, b'\t');
-    &bytes[0..end]
+    &bytes[..end]
 }
 
 // The bytes after the first tab, if there is one.
@@ -41,15 +36,11 @@ fn after_field(bytes: &[u8]) -> Option<&[u8]>
 fn decimal(field: &[u8]) -> Option<u32>
     ensures { result ≡ decimal_of field.now }
 {
-    match field {
-        [a] => match *a {
-            b'0'..=b'9' => Some((*a - b'0') as u32),
-            _ => None,
-        },
-        [a, b] => match (*a, *b) {
-            (b'1'..=b'9', b'0'..=b'9') => Some((*a - b'0') as u32 * 10 + (*b - b'0') as u32),
-            _ => None,
-        },
+    match *field {
+        [a @ b'0'..=b'9'] => Some(u32::from(a - b'0')),
+        [a @ b'1'..=b'9', b @ b'0'..=b'9'] => {
+            Some(u32::from(a - b'0') * 10 + u32::from(b - b'0'))
+        }
         _ => None,
     }
 }
@@ -59,8 +50,8 @@ fn hex_digit(b: u8) -> Option<u16>
     ensures { (result ≡ hex_value b) × (elim result [ Some x ↦ x < 16 | None ↦ Unit {0} ]) }
 {
     match b {
-        b'0'..=b'9' => Some((b - b'0') as u16),
-        b'a'..=b'f' => Some((b - b'a') as u16 + 10),
+        b'0'..=b'9' => Some(u16::from(b - b'0')),
+        b'a'..=b'f' => Some(u16::from(b - b'a') + 10),
         _ => None,
     }
 }
@@ -83,13 +74,10 @@ fn mask(field: &[u8]) -> Option<u16>
 fn letter(field: &[u8]) -> Option<Letter>
     ensures { result ≡ letter_of field.now }
 {
-    let [b] = field else {
-        return None;
-    };
-    match *b as char {
-        'N' => Some(Letter::N),
-        'F' => Some(Letter::F),
-        'Q' => Some(Letter::Q),
+    match field {
+        b"N" => Some(Letter::N),
+        b"F" => Some(Letter::F),
+        b"Q" => Some(Letter::Q),
         _ => None,
     }
 }
@@ -101,8 +89,8 @@ fn entry(role: Role, bytes: &[u8]) -> Option<Entry>
     let node = decimal(first_field(bytes))?;
     let set = mask(after_field(bytes)?)?;
     Some(Entry {
-        role,
         node: Node(node),
+        role,
         set: NodeSet(set),
     })
 }

@@ -17,6 +17,8 @@ pub(crate) struct Reader<'t> {
     pub text: &'t [u8],
     pub at: usize,
     pub line: usize,
+    ghost within: { at ≤ length text.now },
+    ghost lines: { line ≤ at },
 }
 
 impl<'t> Reader<'t> {
@@ -32,7 +34,6 @@ impl<'t> Reader<'t> {
 
     // The next line, as a part of the text; nothing is copied.
     pub(crate) fn next_line(&mut self) -> Option<Line<'t>>
-        requires { (self.old.at ≤ length self.old.text.now) × (self.old.line ≤ self.old.at) }
         ensures text { self.new.text ≡ self.old.text }
         ensures found { elim result [ Some l ↦ NextLine self.old.text.now self.old.at (record { bytes = l.bytes.now; ended = l.ended }) self.new.at × (l.at ≡ self.old.at) × (self.new.line ≡ self.old.line + 1) | None ↦ (self.new ≡ self.old) × (self.old.at ≡ length self.old.text.now) ] }
     {
@@ -46,7 +47,7 @@ impl<'t> Reader<'t> {
         self.at = if ended { at + n + 1 } else { self.text.len() };
         self.line += 1;
         Some(Line {
-            bytes: &rest[0..n],
+            bytes: &rest[..n],
             at,
             ended,
         })

@@ -22,25 +22,18 @@ pub fn read_statement<'t>(text: &'t [u8], statement: &mut Statement) -> Result<(
     let mut draft = Draft::empty();
     let mut reader = Reader::new(text);
     while let Some(line) = reader.next_line() {
-        if let Err(refusal) = draft.take(line) {
-            return Err(Fault {
-                refusal,
-                line: reader.line,
-                part: line.bytes,
-                at: line.at,
-            });
-        }
-    }
-    match draft.finish() {
-        Ok(read) => {
-            *statement = read;
-            Ok(())
-        }
-        Err(refusal) => Err(Fault {
+        draft.take(line).map_err(|refusal| Fault {
             refusal,
-            line: reader.line + 1,
-            part: &text[text.len()..],
-            at: text.len(),
-        }),
+            line: reader.line,
+            part: line.bytes,
+            at: line.at,
+        })?;
     }
+    *statement = draft.finish().map_err(|refusal| Fault {
+        refusal,
+        line: reader.line + 1,
+        part: &text[text.len()..],
+        at: text.len(),
+    })?;
+    Ok(())
 }

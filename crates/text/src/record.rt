@@ -8,18 +8,18 @@ pub enum Letter {
     Q,
 }
 
-// What an F or a Q line lists for its node.
-#[derive(Clone, Copy)]
+// What an F or a Q line lists for its node. F lines come before Q lines.
+#[derive(Clone, Copy, PartialEq, Eq, PartialOrd, Ord)]
 pub enum Role {
     FailProne,
     Quorum,
 }
 
-// An F or Q line: one set of one node.
-#[derive(Clone, Copy)]
+// An F or Q line: one set of one node. In a text entries rise: by node, then by role, then by the mask.
+#[derive(Clone, Copy, PartialEq, Eq, PartialOrd, Ord)]
 pub struct Entry {
-    pub role: Role,
     pub node: Node,
+    pub role: Role,
     pub set: NodeSet,
 }
 

@@ -17,7 +17,7 @@ fn is_refused(case: &Damaged) -> bool {
     match read_statement(case.text, &mut statement) {
         Ok(()) => false,
         Err(fault) => {
-            fault.refusal.number() == case.number
+            u8::from(fault.refusal) == case.number
                 && fault.line == case.line
                 && fault.at == case.at
                 && fault.part.len() == case.part

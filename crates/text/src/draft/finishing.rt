@@ -1,34 +1,38 @@
-ghost use Rattle.std.specs.Prelude.{◌≡◌, ℕ, ◌<◌, List, slice_index_or};
-ghost use Rattle.trust.specs.Families.{sets_in, no_family};
-ghost use Rattle.text.specs.Drafts.{quorums_at, Kept};
+ghost use Rattle.std.specs.Prelude.{◌≡◌, ◌≤◌, List, map};
+ghost use Rattle.text.specs.Drafts.{complete, Kept};
 ghost use Rattle.text.specs.Outcomes.{Finished};
 
 use super::Draft;
 use crate::record::Record;
-use trust::family::Family;
+use trust::node_trust::NodeTrust;
 use trust::refusal::Refusal;
 use trust::statement::Statement;
 
-impl Draft {
-    // The quorums of node k + 1: those of its Q lines, or the rests of its fail-prone sets where it has none.
-    fn quorums_of(&self, k: usize) -> Family
-        requires { k < 16 }
-        ensures { sets_in result ≡ quorums_at self.now k }
-    {
-        if self.quorums[k].len() > 0 {
-            return self.quorums[k];
-        }
-        self.fails[k].rests(self.nodes)
+// A node without Q lines has the rests of its fail-prone sets as its quorums.
+fn complete(node: NodeTrust, n: u32) -> NodeTrust
+    requires { n ≤ 16 }
+    ensures { result ≡ complete n node }
+{
+    if !node.quorums.is_empty() {
+        return node;
     }
+    NodeTrust {
+        quorums: node.fails.rests(n),
+        ..node
+    }
+}
 
-    fn all_quorums(&self) -> [Family; 16]
-        ensures { (k : ℕ) → k < 16 → sets_in (slice_index_or result k no_family) ≡ quorums_at self.now k }
+impl Draft {
+    // What the nodes trust at the end of the text.
+    fn completed(self) -> [NodeTrust; 16]
+        ensures { result ≡ map (complete self.nodes) self.trust }
     {
-        let mut quorums = [Family::empty(); 16];
-        for k in 0..16usize {
-            quorums[k] = self.quorums_of(k);
+        let nodes = self.nodes;
+        let mut trust = self.trust;
+        for node in trust.iter_mut() {
+            *node = complete(*node, nodes);
         }
-        quorums
+        trust
     }
 
     // The statement that the records make, or the refusal at the end of the text.
@@ -38,6 +42,6 @@ impl Draft {
         if self.nodes == 0 {
             return Err(Refusal::Order);
         }
-        Statement::new(self.nodes, self.fails, self.all_quorums())
+        Statement::new(self.nodes, self.completed())
     }
 }

@@ -1,48 +1,28 @@
-ghost use Rattle.std.specs.Prelude.{◌≡◌, ℕ, suc, ◌-◌, ◌<◌, ◌≤◌, true, ◌&&◌, List, [], ◌++◌, length, None, nat_le};
+ghost use Rattle.std.specs.Prelude.{◌≡◌, ℕ, suc, ◌<◌, ◌≤◌, ◌&&◌, List, [], ◌++◌, is_ok, OnOk, IfErr, Ok, nat_lt};
 ghost use Rattle.sets.specs.Sets.{node?, set?};
-ghost use Rattle.trust.specs.Families.{sets_in};
-ghost use Rattle.text.specs.Reading.{rank, follows?, in_range?, in_order?, refusal_of, own};
-ghost use Rattle.text.specs.Drafts.{sets_at, held, Noted, Kept, Taken};
+ghost use Rattle.text.specs.Reading.{follows?, in_range?, in_order?, own};
+ghost use Rattle.text.specs.Drafts.{sets_at, held, placed, Noted, Kept, Taken};
 
 use super::Draft;
 use crate::fields::read_record;
 use crate::reader::Line;
 use crate::record::{Entry, Record, Role};
-use sets::Node;
-use trust::family::Family;
+use trust::node_trust::NodeTrust;
 use trust::refusal::Refusal;
-
-impl Role {
-    // F lines come before Q lines.
-    fn rank(self) -> u8
-        ensures { result ≡ rank self }
-    {
-        match self {
-            Role::FailProne => 0,
-            Role::Quorum => 1,
-        }
-    }
-}
 
 impl Entry {
     // A node from 1 to n and a set of such nodes.
     fn is_in_range(self, n: u32) -> bool
         ensures { result ≡ (node? n self.node.0 && set? n self.set.0) }
     {
-        self.node.0 >= 1 && self.node.0 <= n && self.set.fits(n)
+        self.node.is_among(n) && self.set.fits(n)
     }
 
     // The entry may follow p.
     fn follows(self, p: Entry) -> bool
         ensures { result ≡ follows? p self }
     {
-        if p.node.0 != self.node.0 {
-            return p.node.0 < self.node.0;
-        }
-        if p.role.rank() != self.role.rank() {
-            return p.role.rank() < self.role.rank();
-        }
-        p.set.0 < self.set.0
+        p < self
     }
 }
 
@@ -54,8 +34,7 @@ impl Draft {
         Draft {
             nodes: 0,
             newest: None,
-            fails: [Family::empty(); 16],
-            quorums: [Family::empty(); 16],
+            trust: [NodeTrust::nothing(); 16],
         }
     }
 
@@ -82,70 +61,47 @@ impl Draft {
         }
     }
 
-    // The family that an entry adds to.
-    fn family_of(&self, e: Entry) -> Family
-        requires { (1 ≤ e.node.0) × (e.node.0 ≤ 16) }
-        ensures { sets_in result ≡ sets_at self.now e.role (e.node.0 - 1) }
-    {
-        let k = (e.node.0 - 1) as usize;
-        match e.role {
-            Role::FailProne => self.fails[k],
-            Role::Quorum => self.quorums[k],
-        }
-    }
-
-    // Its node has 16 sets of its role already.
-    fn is_full(&self, next: Record) -> bool
-        requires { (in_range? self.now.nodes next ≡ true) × (in_order? self.now.newest next ≡ true) }
-        ensures { result ≡ nat_le 16 (held self.now next) }
-    {
-        match next {
-            Record::Count(_) => false,
-            Record::Listed(e) => self.family_of(e).len() >= 16,
-        }
-    }
-
-    // The smallest refusal that the record meets, if any.
-    fn refusal(&self, next: Record) -> Option<Refusal>
-        ensures { result ≡ refusal_of self.now.nodes self.now.newest (held self.now next) next }
+    // Refused where it is out of range, or out of order.
+    fn check(&self, next: Record) -> Result<(), Refusal>
+        ensures { result ≡ placed self.now.nodes self.now.newest next }
     {
         if !self.is_in_range(next) {
-            return Some(Refusal::Range);
+            return Err(Refusal::Range);
         }
         if !self.is_in_order(next) {
-            return Some(Refusal::Order);
+            return Err(Refusal::Order);
         }
-        if self.is_full(next) {
-            return Some(Refusal::TooMany);
-        }
-        None
+        Ok(())
     }
 
-    // One set more for a node of a family that has room.
-    fn add(&mut self, e: Entry)
-        requires { (1 ≤ e.node.0) × ((e.node.0 ≤ 16) × (held self.old (Record.Listed e) < 16)) }
-        ensures nodes { (self.new.nodes ≡ self.old.nodes) × (self.new.newest ≡ self.old.newest) }
-        ensures sets { (role : Role) (k : ℕ) → k < 16 → sets_at self.new role k ≡ sets_at self.old role k ++ own role (suc k) (Record.Listed e) }
+    // One set more for a node, or refused where it has 16 of that role.
+    fn add(&mut self, e: Entry) -> Result<(), Refusal>
+        requires { (1 ≤ e.node.0) × (e.node.0 ≤ 16) }
+        ensures others { (self.new.nodes ≡ self.old.nodes) × (self.new.newest ≡ self.old.newest) }
+        ensures room { is_ok result ≡ nat_lt (held self.old (Record.Listed e)) 16 }
+        ensures sets { OnOk result ((role : Role) (k : ℕ) → k < 16 → sets_at self.new role k ≡ sets_at self.old role k ++ own role (suc k) (Record.Listed e)) }
+        ensures full { IfErr result (λ x. (x ≡ Refusal.TooMany) × (self.new ≡ self.old)) }
     {
-        let mut family = self.family_of(e);
-        let _ = family.push(e.set);
-        let k = (e.node.0 - 1) as usize;
+        let node = &mut self.trust[(e.node.0 - 1) as usize];
         match e.role {
-            Role::FailProne => self.fails[k] = family,
-            Role::Quorum => self.quorums[k] = family,
+            Role::FailProne => node.fails.push(e.set),
+            Role::Quorum => node.quorums.push(e.set),
         }
     }
 
-    // One record more, which is not refused.
-    fn note(&mut self, next: Record)
-        requires { refusal_of self.old.nodes self.old.newest (held self.old next) next ≡ None }
-        ensures { Noted self.old next self.new }
+    // One record more, or refused where its node has 16 sets of its role.
+    fn note(&mut self, next: Record) -> Result<(), Refusal>
+        requires { placed self.old.nodes self.old.newest next ≡ Ok tt }
+        ensures room { is_ok result ≡ nat_lt (held self.old next) 16 }
+        ensures noted { OnOk result (Noted self.old next self.new) }
+        ensures full { IfErr result (λ x. (x ≡ Refusal.TooMany) × (self.new ≡ self.old)) }
     {
         match next {
             Record::Count(count) => self.nodes = count,
-            Record::Listed(e) => self.add(e),
+            Record::Listed(e) => self.add(e)?,
         }
         self.newest = Some(next);
+        Ok(())
     }
 
     // Takes a line, or says why not and stays as it is.
@@ -155,13 +111,8 @@ impl Draft {
         if !line.ended {
             return Err(Refusal::Form);
         }
-        let Some(next) = read_record(line.bytes) else {
-            return Err(Refusal::Form);
-        };
-        if let Some(refusal) = self.refusal(next) {
-            return Err(refusal);
-        }
-        self.note(next);
-        Ok(())
+        let next = read_record(line.bytes).ok_or(Refusal::Form)?;
+        self.check(next)?;
+        self.note(next)
     }
 }

@@ -15,8 +15,8 @@ returns c =
     let rest : List ℕ = take (length xs - at) (drop at xs) in
     let e : rest ≡ drop at xs = take_rest xs at in
     let n_is : n ≡ run_before 10 (drop at xs) = c.run_before-n.ensures.0 ∙ ap (run_before 10) e in
-    let bytes : take n (drop at xs) ≡ take (n - 0) rest = ap₂ take (omega arith) (sym e) in
-    let as_cut : (b : Bool) → b ≡ ltb n (length rest) → NextLine xs at (record { bytes = take n (drop at xs); ended = b }) c.if-ended.self → NextLine xs at (record { bytes = take (n - 0) rest; ended = ltb n (length rest) }) c.if-ended.self =
+    let bytes : take n (drop at xs) ≡ take n rest = ap (take n) (sym e) in
+    let as_cut : (b : Bool) → b ≡ ltb n (length rest) → NextLine xs at (record { bytes = take n (drop at xs); ended = b }) c.if-ended.self → NextLine xs at (record { bytes = take n rest; ended = ltb n (length rest) }) c.if-ended.self =
     λ b t. subst (λ (l : LineOf). NextLine xs at l c.if-ended.self) (ap₂ (λ x y. record { bytes = x; ended = y }) bytes t) in
     record {
       text = refl;
