@@ -22,7 +22,7 @@ fn pack_masks(sorted: Sorted) -> u64
 fn pack_refusal(refusal: Refusal) -> u64
     ensures { result ≡ packed_refusal refusal }
 {
-    u64::from(refusal.number()) * 4294967296
+    u64::from(u8::from(refusal)) * 4294967296
 }
 
 // The answer for a rule: 8 comes before 9.

@@ -1,10 +1,8 @@
 -- What program `judge` prints for a statement text.
-use Rattle.std.specs.Prelude.{◌≡◌, ℕ, Bool, cond, List, [], ◌∷◌, ◌++◌, codes, decimal}
+use Rattle.std.specs.Prelude.{◌≡◌, ℕ, Bool, cond, List, [], ◌∷◌, ◌++◌, codes, decimal, Some, None, Option}
+use Rattle.std.specs.Option.{option_map}
+use Rattle.sets.specs.declared.Node.{Node}
 use Rattle.trust.specs.declared.judging.Judgement.{Judgement}
-use Rattle.trust.specs.declared.judging.NodeVerdict.{NodeVerdict}
-use Rattle.trust.specs.declared.judging.NodeVerdict.TheVariants.{All as AllNodes, FirstFailing as FailingNode}
-use Rattle.trust.specs.declared.judging.PairVerdict.{PairVerdict}
-use Rattle.trust.specs.declared.judging.PairVerdict.TheVariants.{All as AllPairs, FirstFailing as FailingPair}
 use Rattle.trust.specs.Judging.{Judged}
 use Rattle.trust.specs.Refusals.{refusal_number}
 use Rattle.trust.specs.Statements.{meant}
@@ -12,15 +10,20 @@ use Rattle.trust.specs.Trust.{Trust, sound}
 use Rattle.text.specs.Outcomes.{ByText}
 use Rattle.reports.specs.Written.{refused_bytes}
 
--- a verdict on pairs: all, or the first that fails
-abbrev pub pair_bytes : PairVerdict → List ℕ
-pair_bytes AllPairs = codes "all"
-pair_bytes (FailingPair i j) = codes "fails first at " ++ (decimal i.0 ++ (32 ∷ decimal j.0))
+-- a verdict as it is written: all pass, or the first that does not
+abbrev pub verdict_words : {T : Type 0} → (T → Option (List ℕ)) → Option T → Option (List ℕ)
+verdict_words words None = Some (codes "all")
+verdict_words words (Some x) = option_map (λ bs. codes "fails first at " ++ bs) (words x)
+
+-- a verdict on pairs
+abbrev pub pair_bytes : Option (Node × Node) → List ℕ
+pair_bytes None = codes "all"
+pair_bytes (Some (i, j)) = codes "fails first at " ++ (decimal i.0 ++ (32 ∷ decimal j.0))
 
 -- a verdict on nodes
-abbrev pub node_bytes : NodeVerdict → List ℕ
-node_bytes AllNodes = codes "all"
-node_bytes (FailingNode i) = codes "fails first at " ++ decimal i.0
+abbrev pub node_bytes : Option Node → List ℕ
+node_bytes None = codes "all"
+node_bytes (Some i) = codes "fails first at " ++ decimal i.0
 
 abbrev pub yes_bytes : Bool → List ℕ
 yes_bytes b = cond b (codes "yes") (codes "no")

@@ -1,5 +1,6 @@
 ghost use Rattle.std.specs.Prelude.{◌≡◌, ℕ, ◌^◌, ◌<◌, true, ◌++◌, IfOk, string_bytes, OnOk};
 ghost use Rattle.sets.specs.Sets.{set?};
+ghost use Rattle.trust.specs.Refusals.{refusal_number};
 ghost use Rattle.trust.specs.Trust.{sound};
 ghost use Rattle.reports.specs.Written.{refused_bytes};
 ghost use Rattle.reports.specs.Guilds.{row_of, table_of, Reports};
@@ -7,6 +8,7 @@ ghost use Rattle.reports.specs.Guilds.{row_of, table_of, Reports};
 use crate::written::Row;
 use sets::NodeSet;
 use std::alloc::{AllocError, Global};
+use std::fmt::Write;
 use text::reading::read_statement;
 use trust::refusal::Refusal;
 use trust::rule::TrustRule;
@@ -14,10 +16,14 @@ use trust::sorting::sort;
 use trust::statement::Statement;
 
 // The one line of a refusal.
-pub(crate) fn refused_line(heap: Global, number: u8, line: usize) -> Result<String, AllocError>
-    ensures { IfOk result (λ out. string_bytes out ≡ refused_bytes number line) }
+pub(crate) fn refused_line(
+    heap: Global,
+    refusal: Refusal,
+    line: usize,
+) -> Result<String, AllocError>
+    ensures { IfOk result (λ out. string_bytes out ≡ refused_bytes (refusal_number refusal) line) }
 {
-    format!(in heap; "refused {number} {line}\n")
+    format!(in heap; "{refusal} {line}\n")
 }
 
 // Node k + 1 alone.
@@ -29,22 +35,13 @@ fn single(k: u32) -> NodeSet
 }
 
 // Adds the row of one faulty set of the rule's nodes.
-fn add_row<R: TrustRule>(
-    out: &mut String,
-    heap: Global,
-    rule: &R,
-    faulty: NodeSet,
-) -> Result<(), AllocError>
+fn add_row<R: TrustRule>(out: &mut String, rule: &R, faulty: NodeSet) -> Result<(), AllocError>
     requires { set? (R.meaning rule.now).size faulty.0 ≡ true }
     ensures { OnOk result (string_bytes out.new ≡ string_bytes out.old ++ row_of (R.meaning rule.now) faulty.0) }
 {
-    let sorted = match sort(rule, faulty) {
-        Ok(sorted) => sorted,
-        Err(_) => unreachable(),
-    };
-    let row = Row { faulty, sorted }.to_string(heap)?;
-    out.push_str(row.as_str())?;
-    Ok(())
+    let sorted = sort(rule, faulty).unwrap();
+    let row = Row { faulty, sorted };
+    write!(out, "{row}")
 }
 
 // The table of a rule, or the refusal of one that is not sound.
@@ -52,12 +49,12 @@ fn table<R: TrustRule>(heap: Global, rule: &R) -> Result<String, AllocError>
     ensures { IfOk result (λ out. string_bytes out ≡ table_of (R.meaning rule.now)) }
 {
     if !rule.sound() {
-        return refused_line(heap, Refusal::Unsound.number(), 0);
+        return refused_line(heap, Refusal::Unsound, 0);
     }
     let mut out = String::from_str(heap, "faulty wise naive guild\n")?;
-    add_row(&mut out, heap, rule, NodeSet(0))?;
+    add_row(&mut out, rule, NodeSet(0))?;
     for k in 0..rule.size() {
-        add_row(&mut out, heap, rule, single(k))?;
+        add_row(&mut out, rule, single(k))?;
     }
     Ok(out)
 }
@@ -69,6 +66,6 @@ pub fn report(heap: Global, text: &[u8]) -> Result<String, AllocError>
     let mut statement = Statement::fresh();
     match read_statement(text, &mut statement) {
         Ok(()) => table(heap, &statement),
-        Err(fault) => refused_line(heap, fault.refusal.number(), fault.line),
+        Err(fault) => refused_line(heap, fault.refusal, fault.line),
     }
 }

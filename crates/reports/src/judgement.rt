@@ -1,51 +1,50 @@
-ghost use Rattle.std.specs.Prelude.{◌≡◌, IfOk, Some, string_bytes};
+ghost use Rattle.std.specs.Prelude.{◌≡◌, ◌∷◌, ◌++◌, IfOk, Some, string_bytes, decimal};
 ghost use Rattle.trust.specs.Judging.{Judged};
 ghost use Rattle.trust.specs.Statements.{meant};
-ghost use Rattle.reports.specs.Judgements.{pair_bytes, node_bytes, yes_bytes, judgement_bytes, Judges};
+ghost use Rattle.reports.specs.Judgements.{verdict_words, pair_bytes, yes_bytes, judgement_bytes, Judges};
 
 use crate::guilds::refused_line;
+use sets::Node;
 use std::alloc::{AllocError, Global};
 use std::fmt;
 use text::reading::read_statement;
-use trust::judging::{Judgement, NodeVerdict, PairVerdict};
+use trust::judging::Judgement;
 use trust::rule::TrustRule;
 use trust::statement::Statement;
 
-// A verdict on pairs as it is written.
+// Two nodes as they are written.
 #[derive(Clone, Copy)]
-struct Pairs(PairVerdict);
+struct NodePair(Node, Node);
 
-impl fmt::Display for Pairs {
-    ghost output = { λ x. Some (pair_bytes x.0) };
+impl fmt::Display for NodePair {
+    ghost output = { λ pair. Some (decimal pair.0.0 ++ (32 ∷ decimal pair.1.0)) };
 
     fn fmt<W: fmt::Write>(&self, f: &mut fmt::Formatter<W>) -> fmt::Result {
-        match self.0 {
-            PairVerdict::All => write!(f, "all"),
-            PairVerdict::FirstFailing(i, j) => {
-                let i = i.0;
-                let j = j.0;
-                write!(f, "fails first at {i} {j}")
-            }
+        let i = self.0;
+        let j = self.1;
+        write!(f, "{i} {j}")
+    }
+}
+
+// A verdict as it is written: all pass, or the first that does not.
+#[derive(Clone, Copy)]
+struct Verdict<T>(Option<T>);
+
+impl<T: fmt::Display> fmt::Display for Verdict<T> {
+    ghost output = { λ verdict. verdict_words T.output verdict.0 };
+
+    fn fmt<W: fmt::Write>(&self, f: &mut fmt::Formatter<W>) -> fmt::Result {
+        match &self.0 {
+            None => write!(f, "all"),
+            Some(first) => write!(f, "fails first at {first}"),
         }
     }
 }
 
-// A verdict on nodes as it is written.
-#[derive(Clone, Copy)]
-struct Nodes(NodeVerdict);
-
-impl fmt::Display for Nodes {
-    ghost output = { λ x. Some (node_bytes x.0) };
-
-    fn fmt<W: fmt::Write>(&self, f: &mut fmt::Formatter<W>) -> fmt::Result {
-        match self.0 {
-            NodeVerdict::All => write!(f, "all"),
-            NodeVerdict::FirstFailing(i) => {
-                let i = i.0;
-                write!(f, "fails first at {i}")
-            }
-        }
-    }
+fn pairs(failing: Option<(Node, Node)>) -> Verdict<NodePair>
+    ensures { verdict_words (λ pair. Some (decimal pair.0.0 ++ (32 ∷ decimal pair.1.0))) result.0 ≡ Some (pair_bytes failing) }
+{
+    Verdict(failing.map(|(i, j)| NodePair(i, j)))
 }
 
 fn yes_or_no(b: bool) -> &'static str
@@ -59,9 +58,9 @@ fn judgement_text(heap: Global, statement: &Statement) -> Result<String, AllocEr
     ensures { IfOk result (λ out. (j : Judgement) × Judged (meant statement.now) j × (string_bytes out ≡ judgement_bytes (meant statement.now) j)) }
 {
     let judgement = statement.judge();
-    let b3 = Pairs(judgement.b3);
-    let consistency = Pairs(judgement.consistency);
-    let availability = Nodes(judgement.availability);
+    let b3 = pairs(judgement.b3);
+    let consistency = pairs(judgement.consistency);
+    let availability = Verdict(judgement.availability);
     let sound = yes_or_no(statement.sound());
     format!(in heap;
         "B3: {b3}\nconsistency: {consistency}\navailability: {availability}\nsound: {sound}\n"
@@ -75,6 +74,6 @@ pub fn report_judgement(heap: Global, text: &[u8]) -> Result<String, AllocError>
     let mut statement = Statement::fresh();
     match read_statement(text, &mut statement) {
         Ok(()) => judgement_text(heap, &statement),
-        Err(fault) => refused_line(heap, fault.refusal.number(), fault.line),
+        Err(fault) => refused_line(heap, fault.refusal, fault.line),
     }
 }

@@ -5,18 +5,6 @@ use sets::NodeSet;
 use std::fmt;
 use trust::sorting::Sorted;
 
-// A hexadecimal digit with a small letter.
-fn hex(d: u16) -> char
-    requires { d < 16 }
-    ensures { (result ≡ hex_byte d) × (result < 128) }
-{
-    if d < 10 {
-        (b'0' + d as u8) as char
-    } else {
-        (b'a' + (d as u8 - 10)) as char
-    }
-}
-
 // A mask as it is written: four hexadecimal digits.
 #[derive(Clone, Copy)]
 pub struct Mask(pub NodeSet);
@@ -25,12 +13,9 @@ impl fmt::Display for Mask {
     ghost output = { λ m. Some (mask_bytes m.0.0) };
 
     fn fmt<W: fmt::Write>(&self, f: &mut fmt::Formatter<W>) -> fmt::Result {
-        let mask = self.0.0;
-        let a = hex(mask / 4096);
-        let b = hex(mask / 256 % 16);
-        let c = hex(mask / 16 % 16);
-        let d = hex(mask % 16);
-        write!(f, "{a}{b}{c}{d}")
+        let high = self.0.0 / 256;
+        let low = self.0.0 % 256;
+        write!(f, "{high:02x}{low:02x}")
     }
 }
 

@@ -1,7 +1,9 @@
 #![tactic(auto)]
 
-ghost use Rattle.std.specs.Prelude.{◌≡◌, ℕ, ◌≤◌, min, true, not, ◌&&◌, ◌||◌, Decides, ◌==◌, bit_and, bit_or, count_ones};
+ghost use Rattle.std.specs.Prelude.{◌≡◌, ℕ, ◌≤◌, min, true, not, ◌&&◌, ◌||◌, Decides, ◌==◌, bit_and, bit_or, count_ones, decimal, Some};
 ghost use Rattle.sets.specs.Sets.{node?, set?, has, inside, meets, with_node, how_many, rest};
+
+use std::fmt;
 
 // A node by its number. Nodes are 1 to 16; any number may be asked about.
 #[derive(Clone, Copy, PartialEq, Eq, PartialOrd, Ord, Debug)]
@@ -17,6 +19,15 @@ impl Node {
         ensures { result ≡ node? n self.0 }
     {
         self.0 >= 1 && self.0 <= n
+    }
+}
+
+impl fmt::Display for Node {
+    ghost output = { λ node. Some (decimal node.0) };
+
+    fn fmt<W: fmt::Write>(&self, f: &mut fmt::Formatter<W>) -> fmt::Result {
+        let number = self.0;
+        write!(f, "{number}")
     }
 }
 
