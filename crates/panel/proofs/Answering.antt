@@ -9,9 +9,8 @@ use Rattle.protocol.specs.declared.message.Place.{Place}
 use Rattle.protocol.specs.declared.slot.Slot.{Slot}
 use Rattle.runs.specs.declared.call.Call.{Call}
 use Rattle.runs.specs.declared.call.Call.TheVariants.{Hand}
-use Rattle.runs.specs.declared.call.Answer.{Answer}
 use Rattle.runs.specs.Values.{Values}
-use Rattle.runs.specs.Calls.{known_in, roll_size, roll_full, entered, refuse_or, handed_on, answer}
+use Rattle.runs.specs.Calls.{known_in, roll_size, roll_full, entered, refuse_or, handed_on, answer, Answer}
 use Rattle.runs.specs.Promise.{CameAbout}
 use Rattle.runs.specs.Promise.CameAbout.{called}
 use Rattle.panel.specs.declared.panel.Panel.{Panel}

@@ -1,5 +1,5 @@
 -- A forged message by what the code found of its value, and a message handed over.
-use Rattle.std.proofs.Common.{◌≡◌, ℕ, ◌<◌, ◌≤◌, Bool, true, false, cond, not, ◌&&◌, ◌||◌, leb, List, [], ◌∷◌, set, is_some, Some, None, Option, sym, ap, ◌∙◌, ap₂, arith}
+use Rattle.std.proofs.Common.{◌≡◌, ℕ, ◌<◌, ◌≤◌, Bool, true, false, cond, not, ◌&&◌, ◌||◌, leb, List, [], ◌∷◌, set, is_some, Some, None, Option, sym, ap, ◌∙◌, ap₂, arith, Ok, Err}
 use Rattle.std.proofs.lemmas.Bool.{and_parts, not-false, leb-true, ltb-true, and_from}
 use Rattle.trust.specs.declared.refusal.Refusal.{Refusal}
 use Rattle.trust.specs.declared.refusal.Refusal.TheVariants.{RollSize, NoSuch, WrongParty, Unfit, NotWaiting, RollFull}
@@ -13,7 +13,7 @@ use Rattle.protocol.specs.declared.record.Heard.TheVariants.{Ignored}
 use Rattle.protocol.specs.declared.slot.Slot.{Slot}
 use Rattle.broadcast.specs.Slots.{record_at}
 use Rattle.broadcast.specs.Events.{hears}
-use Rattle.runs.specs.declared.call.Answer.TheVariants.{Stepped, Refused}
+use Rattle.runs.specs.declared.call.Outcome.TheVariants.{Stepped}
 use Rattle.runs.specs.Calls.{World, State, setting, sender, correct, slot_at, slot?, kind, message?, roll_size, roll_full, place_of, entered, heeds_in, hears_in, waiting_in, forge, forge_refusals, hand, hand_refusals, brought}
 use Rattle.panel.proofs.Refusing.{none_holds, after_first}
 use Rattle.panel.proofs.Answering.{is_refused, is_free}
@@ -53,7 +53,7 @@ module _ {V : Type 0} (w : World) (places : ℕ) (x : State V) (n s i k : ℕ) (
   same_refusal : first_of (forge_refusals w seen places n s i k fit known) ≡ first_of (forge_refusals w x places n s i k fit' known')
   same_refusal = after_first (roll_size x.used places) RollSize (later fit known) (later fit' known') (λ fits. ap₂ (λ f p. first_of (later f p)) fit_is (known_same fits))
 
-  pub forge_refused : (e : Refusal) → Some e ≡ first_of (forge_refusals w seen places n s i k fit known) → forge w places x n s i k v fit' known' ≡ (Refused e, x)
+  pub forge_refused : (e : Refusal) → Some e ≡ first_of (forge_refusals w seen places n s i k fit known) → forge w places x n s i k v fit' known' ≡ (Err e, x)
   forge_refused e h = is_refused (first_of (forge_refusals w x places n s i k fit' known')) e x _ (sym same_refusal ∙ sym h)
 
   module _ (free : None ≡ first_of (forge_refusals w seen places n s i k fit known)) where
@@ -64,15 +64,15 @@ module _ {V : Type 0} (w : World) (places : ℕ) (x : State V) (n s i k : ℕ) (
     goes_on = ap₂ (λ f p. forge w places x n s i k v f p) (sym fit_is) (sym (known_same forge_fits.0))
 
     is_taken : (b : Bool) → heeded ≡ b → forge w places x n s i k v fit known
-        ≡ cond b (Stepped (hears_in w x.board s (kind n) i k (place_of x.used known)).0, entered x v known (hears_in w x.board s (kind n) i k (place_of x.used known)).1) (Stepped Ignored, x)
+        ≡ cond b (Ok (Stepped (hears_in w x.board s (kind n) i k (place_of x.used known)).0), entered x v known (hears_in w x.board s (kind n) i k (place_of x.used known)).1) (Ok (Stepped Ignored), x)
     is_taken b e = is_free (first_of (forge_refusals w x places n s i k fit known)) x _ (sym free)
-        ∙ ap (λ t. cond t (Stepped (hears_in w x.board s (kind n) i k (place_of x.used known)).0, entered x v known (hears_in w x.board s (kind n) i k (place_of x.used known)).1) (Stepped Ignored, x)) e
+        ∙ ap (λ t. cond t (Ok (Stepped (hears_in w x.board s (kind n) i k (place_of x.used known)).0), entered x v known (hears_in w x.board s (kind n) i k (place_of x.used known)).1) (Ok (Stepped Ignored), x)) e
 
-    pub forge_ignored : heeded ≡ false → forge w places x n s i k v fit' known' ≡ (Stepped Ignored, x)
+    pub forge_ignored : heeded ≡ false → forge w places x n s i k v fit' known' ≡ (Ok (Stepped Ignored), x)
     forge_ignored e = goes_on ∙ is_taken false e
 
     pub forge_heard : heeded ≡ true → forge w places x n s i k v fit' known'
-        ≡ (Stepped (hears_in w x.board s (kind n) i k (place_of x.used known)).0, entered x v known (hears_in w x.board s (kind n) i k (place_of x.used known)).1)
+        ≡ (Ok (Stepped (hears_in w x.board s (kind n) i k (place_of x.used known)).0), entered x v known (hears_in w x.board s (kind n) i k (place_of x.used known)).1)
     forge_heard e = goes_on ∙ is_taken true e
 
 -- what a board's step says and leaves, by the parts that the code passes it
@@ -90,7 +90,7 @@ module _ (w : World) (b b' : List Slot) (s i k : ℕ) (m m' : Kind) (from_sender
 
 -- a hand of a message in range, between correct nodes, that waits
 pub hand_heard : (w : World) (b : List Slot) (n s i k : ℕ) (p : Place) → message? w n s i k ≡ true → correct w i ≡ true → correct w k ≡ true
-    → waiting_in w b s (kind n) i k ≡ Some p → hand w b n s i k ≡ (Stepped (hears_in w b s (kind n) i k p).0, (hears_in w b s (kind n) i k p).1)
+    → waiting_in w b s (kind n) i k ≡ Some p → hand w b n s i k ≡ (Ok (Stepped (hears_in w b s (kind n) i k p).0), (hears_in w b s (kind n) i k p).1)
 hand_heard w b n s i k p m ci ck waits =
     is_free (first_of (hand_refusals w b n s i k)) b (brought w b s (kind n) i k (waiting_in w b s (kind n) i k))
     (ap₂ (λ x y. first_of ((not x, NoSuch) ∷ ((not y, WrongParty) ∷ ((absent (waiting_in w b s (kind n) i k), NotWaiting) ∷ [])))) m (and_from (correct w i) (correct w k) ci ck)

@@ -3,10 +3,9 @@ use Rattle.std.proofs.Common.{◌≡◌, ℕ, ◌+◌, ◌-◌, ◌<◌, ◌≤�
 use Rattle.std.proofs.lemmas.List.{map_push, drop-drop, get_or-drop, take_more, take_more_set, take_all, drop-set-lt}
 use Rattle.trust.specs.Trust.{Trust}
 use Rattle.runs.specs.declared.call.Call.{Call}
-use Rattle.runs.specs.declared.call.Answer.{Answer}
 use Rattle.runs.specs.declared.call.Entry.{Entry}
 use Rattle.runs.specs.Values.{Values}
-use Rattle.runs.specs.Calls.{World, State, answer}
+use Rattle.runs.specs.Calls.{World, State, answer, Answer}
 use Rattle.panel.specs.declared.panel.Panel.{Panel}
 use Rattle.panel.specs.Views.{world_of, state_of, Does}
 use Rattle.panel.specs.Playing.{played, call_of, answer_of, Plays}

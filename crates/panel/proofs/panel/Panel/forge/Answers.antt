@@ -1,7 +1,7 @@
-use Rattle.std.proofs.Common.{◌≡◌, ◌&&◌, List, [], length, sym, refl, ap, ◌∙◌}
+use Rattle.std.proofs.Common.{◌≡◌, ◌&&◌, List, [], length, sym, refl, ap, ◌∙◌, Ok}
 use Rattle.protocol.specs.declared.record.Heard.{Heard}
 use Rattle.protocol.specs.declared.slot.Slot.{Slot}
-use Rattle.runs.specs.declared.call.Answer.TheVariants.{Stepped}
+use Rattle.runs.specs.declared.call.Outcome.TheVariants.{Stepped}
 use Rattle.runs.specs.Calls.{known_in, place_of, heeds_in, hears_in, kind, roll_full, entered}
 use Rattle.panel.specs.Views.{world_of, state_of}
 use Rattle.panel.proofs.Answering.{used_within, few_places, known_is, unchanged, enters}
@@ -74,10 +74,10 @@ returns g c =
     let board : c.hear.new.self.slots ≡ after.1 =
     c.hear.ensures.slots p.faulty.0 ∙ same_board w p.board.slots c.enter-place.new.self.slots c.args.slot c.args.from c.args.to (kind c.args.kind) c.kind_of-kind.result c.sender.result place c.enter-place.result
     c.enter-place.ensures.slots c.kind_of-kind.ensures c.sender.ensures c.enter-place.ensures.place in
-    enters values g.R.TrustRule.meaning p roll _ (Stepped c.hear.result) v known after.1 _ _ refl
+    enters values g.R.TrustRule.meaning p roll _ (Ok (Stepped c.hear.result)) v known after.1 _ _ refl
     (c.hear.ensures.used ∙ c.enter-place.ensures.used) board c.enter-place.ensures.roll
     (used_within p.board.used (length roll) fits.0) (ap (λ b. b && roll_full p.board.used (length roll) known) (sym heeded) ∙ fits.2)
     (λ row carries.
     forge_heard w (length roll) (state_of p row) c.args.kind c.args.slot c.args.from c.args.to v c.fit.result (values.fit (values.meaning v)) known (known_in values row v) c.fit.ensures
     (known_is values p.board.used row roll v known carries c.find-known.ensures) c.in_default.ensures heeded
-    ∙ ap (λ h. (Stepped h, entered (state_of p row) v known after.1)) (sym said))
+    ∙ ap (λ h. (Ok (Stepped h), entered (state_of p row) v known after.1)) (sym said))

@@ -1,7 +1,7 @@
-use Rattle.std.proofs.Common.{◌≡◌, List, sym, refl, ap, ◌∙◌, ap₂}
+use Rattle.std.proofs.Common.{◌≡◌, List, sym, refl, ap, ◌∙◌, ap₂, Ok}
 use Rattle.protocol.specs.declared.record.Heard.{Heard}
 use Rattle.protocol.specs.declared.slot.Slot.{Slot}
-use Rattle.runs.specs.declared.call.Answer.TheVariants.{Stepped}
+use Rattle.runs.specs.declared.call.Outcome.TheVariants.{Stepped}
 use Rattle.runs.specs.Calls.{kind, hears_in, waiting_in}
 use Rattle.panel.specs.Views.{world_of}
 use Rattle.panel.proofs.Forging.{hand_heard, same_board, same_heard}
@@ -25,5 +25,5 @@ returns g c =
       same_used = c.hear.ensures.used;
       answers = hand_heard w b n s i k place (sym c.if-not-is_message.ensures) (sym c.if-not-is_correct.ensures) (sym c.if-not-is_correct-2.ensures)
           (ap (λ m. waiting_in w b s m i k) (sym c.kind_of-kind.ensures) ∙ sym c.in-Some.ensures)
-          ∙ ap₂ (λ h x. (Stepped h, x)) (sym said) (sym board);
+          ∙ ap₂ (λ h x. (Ok (Stepped h), x)) (sym said) (sym board);
     }

@@ -1,7 +1,7 @@
-use Rattle.std.proofs.Common.{◌≡◌, Bool, not, [], length, is_some, Some, None, Option, sym, refl, ap, ◌∙◌, ap₂}
+use Rattle.std.proofs.Common.{◌≡◌, Bool, not, [], length, is_some, Some, None, Option, sym, refl, ap, ◌∙◌, ap₂, Ok}
 use Rattle.protocol.specs.Hearing.{absent}
 use Rattle.protocol.specs.declared.message.Place.{Place}
-use Rattle.runs.specs.declared.call.Answer.TheVariants.{Proposed}
+use Rattle.runs.specs.declared.call.Outcome.TheVariants.{Proposed}
 use Rattle.runs.specs.Calls.{slot_at, known_in, with_proposal, place_of}
 use Rattle.panel.specs.Views.{world_of, state_of}
 use Rattle.panel.proofs.Answering.{used_within, known_is, unchanged, enters}
@@ -43,7 +43,7 @@ returns g c =
     let w = world_of g.R.TrustRule.meaning p in
     let none = none_is (slot_at p.board.slots s).proposal _ (c.is_some.ensures ∙ ap is_some c.proposal.ensures) ∙ ap not c.if-is_some.false in
     let fits = roll_fits w (length roll) (state_of {V = g.row.V.Denot} p []) s v c.fit.result c.fit.result known known refl (λ _. refl) c.in_default.ensures in
-    enters values g.R.TrustRule.meaning p roll _ Proposed v known (with_proposal p.board.slots s (place_of p.board.used known)) _ _ refl
+    enters values g.R.TrustRule.meaning p roll _ (Ok Proposed) v known (with_proposal p.board.slots s (place_of p.board.used known)) _ _ refl
     (c.set_proposal.ensures.used ∙ c.enter-place.ensures.used)
     (c.set_proposal.ensures.slots ∙ ap₂ (λ b k. with_proposal b s k) c.enter-place.ensures.slots c.enter-place.ensures.place)
     c.enter-place.ensures.roll (used_within p.board.used (length roll) fits.0) fits.1
