@@ -1,7 +1,8 @@
 -- What a call's code did, as the statement has it: the refusal by what is known, the state left as it was, a value entered.
-use Rattle.std.proofs.Common.{◌≡◌, ℕ, ◌+◌, ◌<◌, ◌≤◌, false, cond, ◌||◌, eqb, ltb, List, [], ◌∷◌, ◌++◌, length, take, drop, set, Some, None, Option, sym, refl, ap, ◌∙◌, subst, ap₂, arith, length-set}
+use Rattle.std.proofs.Common.{◌≡◌, ℕ, ◌+◌, ◌<◌, ◌≤◌, false, cond, ◌||◌, eqb, ltb, List, [], ◌∷◌, ◌++◌, length, take, drop, set, Some, None, Option, sym, refl, ap, ◌∙◌, subst, ap₂, arith, length-set, Err}
 use Rattle.std.proofs.lemmas.List.{take_all, take_more_set, length_push, drop-set-lt}
 use Rattle.std.proofs.lemmas.Bool.{leb-false, ltb-false, or_parts}
+use Rattle.std.specs.Option.{option_map_or}
 use Rattle.trust.specs.declared.refusal.Refusal.{Refusal}
 use Rattle.trust.specs.Trust.{Trust}
 use Rattle.protocol.specs.Hearing.{absent}
@@ -10,7 +11,7 @@ use Rattle.protocol.specs.declared.slot.Slot.{Slot}
 use Rattle.runs.specs.declared.call.Call.{Call}
 use Rattle.runs.specs.declared.call.Call.TheVariants.{Hand}
 use Rattle.runs.specs.Values.{Values}
-use Rattle.runs.specs.Calls.{known_in, roll_size, roll_full, entered, refuse_or, handed_on, answer, Answer}
+use Rattle.runs.specs.Calls.{known_in, roll_size, roll_full, entered, refused, handed_on, answer, Answer}
 use Rattle.runs.specs.Promise.{CameAbout}
 use Rattle.runs.specs.Promise.CameAbout.{called}
 use Rattle.panel.specs.declared.panel.Panel.{Panel}
@@ -31,11 +32,11 @@ pub known_is : {V : Type 0} (values : Values V) (used : ℕ) (row roll : List V)
 known_is values used row roll v known carries e fits = e ∙ ap (λ r. known_in values r v) (row_is used row roll carries (used_within used (length roll) fits))
 
 -- one part of a refused call, and of one that is not
-pub is_refused : {A : Type 0} (o : Option Refusal) (e : Refusal) (x : A) (y : Answer × A) → o ≡ Some e → refuse_or o x y ≡ refuse_or (Some e) x y
-is_refused o e x y h = ap (λ p. refuse_or p x y) h
+pub is_refused : {A : Type 0} (o : Option Refusal) (e : Refusal) (x : A) (y : Answer × A) → o ≡ Some e → option_map_or (refused x) o y ≡ (Err e, x)
+is_refused o e x y h = ap (λ p. option_map_or (refused x) p y) h
 
-pub is_free : {A : Type 0} (o : Option Refusal) (x : A) (y : Answer × A) → o ≡ None → refuse_or o x y ≡ y
-is_free o x y h = ap (λ p. refuse_or p x y) h
+pub is_free : {A : Type 0} (o : Option Refusal) (x : A) (y : Answer × A) → o ≡ None → option_map_or (refused x) o y ≡ y
+is_free o x y h = ap (λ p. option_map_or (refused x) p y) h
 
 module _ {R V : Type 0} (values : Values V) (meaning : R → Trust) (p : Panel R) (roll : List V) (c : Call V) where
   -- a call's history, from its answer

@@ -7,7 +7,7 @@ ghost use Rattle.runs.specs.declared.call.Call.TheVariants.{Propose, Forge, Hand
 use super::Panel;
 use crate::roll::find;
 use protocol::message::Place;
-use runs::call::Answer;
+use runs::call::{Answer, Outcome};
 use runs::value::ValueKind;
 use trust::refusal::Refusal;
 use trust::rule::TrustRule;
@@ -62,13 +62,13 @@ impl<'r, R: TrustRule> Panel<'r, R> {
     {
         let known = find(roll, self.board.used, &value);
         if let Some(refusal) = self.propose_refusal(roll.len(), slot, value.fit(), known) {
-            return Answer::Refused(refusal);
+            return Err(refusal);
         }
         if self.board.proposal(slot as usize).is_some() {
-            return Answer::Already;
+            return Ok(Outcome::Already);
         }
         let place = self.board.enter(roll, value, known);
         self.board.set_proposal(slot as usize, place);
-        Answer::Proposed
+        Ok(Outcome::Proposed)
     }
 }

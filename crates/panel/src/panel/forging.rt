@@ -9,7 +9,7 @@ use super::messages::kind_of;
 use crate::roll::find;
 use protocol::message::{Message, Place};
 use protocol::record::Heard;
-use runs::call::Answer;
+use runs::call::{Answer, Outcome};
 use runs::value::ValueKind;
 use sets::Node;
 use trust::refusal::Refusal;
@@ -72,11 +72,11 @@ impl<'r, R: TrustRule> Panel<'r, R> {
             value.fit(),
             known,
         ) {
-            return Answer::Refused(refusal);
+            return Err(refusal);
         }
         let kind = kind_of(kind);
         if !self.heeds(kind, slot, from, to) {
-            return Answer::Stepped(Heard::Ignored);
+            return Ok(Outcome::Stepped(Heard::Ignored));
         }
         let sender = Node(self.sender(slot));
         let place = self.board.enter(roll, value, known);
@@ -85,10 +85,13 @@ impl<'r, R: TrustRule> Panel<'r, R> {
             from: Node(from),
             place,
         };
-        Answer::Stepped(
-            self.board
-                .hear(self.rule, slot as usize, sender, Node(to), message),
-        )
+        Ok(Outcome::Stepped(self.board.hear(
+            self.rule,
+            slot as usize,
+            sender,
+            Node(to),
+            message,
+        )))
     }
 
     // A waiting message of a correct node reaches a correct node.
@@ -96,14 +99,14 @@ impl<'r, R: TrustRule> Panel<'r, R> {
         ensures { Hands R.meaning self.old kind slot from to result self.new }
     {
         if !self.is_message(kind, slot, from, to) {
-            return Answer::Refused(Refusal::NoSuch);
+            return Err(Refusal::NoSuch);
         }
         if !self.is_correct(from) || !self.is_correct(to) {
-            return Answer::Refused(Refusal::WrongParty);
+            return Err(Refusal::WrongParty);
         }
         let kind = kind_of(kind);
         let Some(place) = self.waiting(kind, slot, from, to) else {
-            return Answer::Refused(Refusal::NotWaiting);
+            return Err(Refusal::NotWaiting);
         };
         let sender = Node(self.sender(slot));
         let message = Message {
@@ -111,9 +114,12 @@ impl<'r, R: TrustRule> Panel<'r, R> {
             from: Node(from),
             place,
         };
-        Answer::Stepped(
-            self.board
-                .hear(self.rule, slot as usize, sender, Node(to), message),
-        )
+        Ok(Outcome::Stepped(self.board.hear(
+            self.rule,
+            slot as usize,
+            sender,
+            Node(to),
+            message,
+        )))
     }
 }

@@ -12,7 +12,7 @@ use trust::rule::TrustRule;
 pub(super) fn kind_of(number: u32) -> Kind
     ensures { result ≡ kind number }
 {
-    Kind::from_number(number).unwrap_or(Kind::Ready)
+    Kind::try_from(number).unwrap_or(Kind::Ready)
 }
 
 impl<'r, R: TrustRule> Panel<'r, R> {

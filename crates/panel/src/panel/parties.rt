@@ -40,7 +40,7 @@ impl<'r, R: TrustRule> Panel<'r, R> {
     pub(super) fn is_message(&self, kind: u32, slot: u32, from: u32, to: u32) -> bool
         ensures { result ≡ message? (world_of R.meaning self.now) kind slot from to }
     {
-        Kind::from_number(kind).is_some()
+        Kind::try_from(kind).is_ok()
             && self.is_slot(slot)
             && self.is_node(from)
             && self.is_node(to)
