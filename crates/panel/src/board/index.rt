@@ -1,6 +1,9 @@
 ghost use Rattle.std.specs.Prelude.{◌≡◌, ℕ, ◌-◌, ◌<◌, ◌≤◌};
+ghost use Rattle.broadcast.specs.Slots.{record_at};
 
 use protocol::message::Kind;
+use protocol::record::Record;
+use protocol::slot::Slot;
 use sets::Node;
 
 // The number of a slot on a board.
@@ -40,5 +43,11 @@ impl Member {
         ensures { result ≡ self.node.0 - 1 }
     {
         (self.node.0 - 1) as usize
+    }
+
+    pub(crate) fn record_in(self, slot: &Slot) -> &Record
+        ensures { result.now ≡ record_at slot.now self.node.0 }
+    {
+        &slot.records[self.index()]
     }
 }

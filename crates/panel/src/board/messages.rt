@@ -12,7 +12,7 @@ impl<'b> Broadcast<'b> {
     pub(crate) fn said(&self, kind: Kind, node: Member) -> Option<Place>
         ensures { result ≡ said (setting_of self.now) self.now.slot.now kind node.node.0 }
     {
-        let record = &self.slot.records[node.index()];
+        let record = node.record_in(self.slot);
         match kind {
             Kind::Send if node.node == self.sender => self.slot.proposal,
             Kind::Send => None,
@@ -25,7 +25,7 @@ impl<'b> Broadcast<'b> {
     pub(crate) fn taken(&self, route: Route) -> Option<Place>
         ensures { result ≡ taken self.now.sender.0 (record_at self.now.slot.now route.to.node.0) route.kind route.from.node.0 }
     {
-        let record = &self.slot.records[route.to.index()];
+        let record = route.to.record_in(self.slot);
         let at = route.from.index();
         match route.kind {
             Kind::Send if route.from.node == self.sender => record.echoed,

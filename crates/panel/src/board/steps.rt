@@ -1,4 +1,4 @@
-ghost use Rattle.std.specs.Prelude.{◌≡◌, ℕ, ◌+◌, ◌<◌, ◌≤◌, [], ◌∷◌, length, replicate, if◌then◌else◌, slice_set, OnOk, OnErr, IfOk};
+ghost use Rattle.std.specs.Prelude.{◌≡◌, ℕ, ◌+◌, ◌<◌, ◌≤◌, [], ◌∷◌, length, replicate, if◌then◌else◌, slice_set, take, OnOk, OnErr, IfOk};
 ghost use Rattle.std.specs.Result.{result_err};
 ghost use Rattle.trust.specs.Refusals.{first_of};
 ghost use Rattle.trust.specs.declared.refusal.Refusal.TheVariants.{RollFull};
@@ -34,6 +34,14 @@ impl Board {
         &self.slots[slot.index()]
     }
 
+    // The slots below one.
+    pub(crate) fn below(&self, slot: SlotIndex) -> &[Slot]
+        ensures count { length result.now ≡ slot.number }
+        ensures slots { result.now ≡ take slot.number self.now.slots }
+    {
+        &self.slots[..slot.index()]
+    }
+
     // The sender of a slot proposes the value at a place.
     pub(crate) fn set_proposal(&mut self, slot: SlotIndex, place: Place)
         ensures slots { self.new.slots ≡ with_proposal self.old.slots slot.number place }
@@ -55,12 +63,7 @@ impl Board {
         ensures slots { (faulty : ℕ) → self.new.slots ≡ slice_set self.old.slots slot.number (hears (record { trust = R.meaning rule.now; faulty = faulty; sender = sender.0 }) message.kind message.from.0 to.node.0 message.place (slot_at self.old.slots slot.number)) }
         ensures used { self.new.used ≡ self.old.used }
     {
-        let s = slot.index();
-        let k = to.index();
-        let mut record = self.slots[s].records[k];
-        let heard = record.hear(rule, to.node, sender, message);
-        self.slots[s].records[k] = record;
-        heard
+        self.slots[slot.index()].records[to.index()].hear(rule, to.node, sender, message)
     }
 
     // The place of a value: where it is known, or the next place of the roll, where it goes.

@@ -1,12 +1,11 @@
 ghost use Rattle.std.specs.Prelude.{◌≡◌, ◌<◌, ◌≤◌};
 ghost use Rattle.broadcast.specs.Slots.{record_at};
-ghost use Rattle.runs.specs.Calls.{slot_at};
-ghost use Rattle.runs.specs.Readings.{held, claims, first_claim, counts?, of_account, tally_of};
+ghost use Rattle.runs.specs.Readings.{meant_at, claims, first_claim, counts?, of_account, tally_of};
 ghost use Rattle.panel.specs.Boards.{state_on, of_slots, lent};
 
 use super::Board;
 use super::index::{Member, SlotIndex};
-use protocol::message::Place;
+use protocol::slot::Slot;
 use runs::value::ValueKind;
 
 // What a node delivered in each slot of a board, and the values that the places stand for.
@@ -19,56 +18,50 @@ pub(crate) struct Deliveries<'v, V> {
 
 impl<'v, V: ValueKind> Deliveries<'v, V> {
     // The value that the node holds in a slot. A delivered place past the row has none.
-    fn held(&self, slot: SlotIndex) -> Option<&'v V>
-        ensures { lent V.values result ≡ held V.values (state_on self.now.board.now self.now.row.now) self.now.node.node.0 slot.number }
+    fn held(&self, slot: &Slot) -> Option<&'v V>
+        ensures { lent V.values result ≡ meant_at V.values self.now.row.now (record_at slot.now self.now.node.node.0).delivered }
     {
-        let place = self.board.delivered(slot, self.node)?;
+        let place = self.node.record_in(slot).delivered?;
         self.row.get(place.0 as usize)
     }
 
     // The value in a slot is of the account.
-    fn is_of(&self, slot: SlotIndex, account: u16) -> bool
-        ensures { result ≡ of_account V.values account (held V.values (state_on self.now.board.now self.now.row.now) self.now.node.node.0 slot.number) }
+    fn is_of(&self, slot: &Slot, account: u16) -> bool
+        ensures { result ≡ of_account V.values account (meant_at V.values self.now.row.now (record_at slot.now self.now.node.node.0).delivered) }
     {
-        match self.held(slot) {
-            Some(value) => value.account() == account,
-            None => false,
-        }
+        self.held(slot)
+            .is_some_and(|value| value.account() == account)
     }
 
     // The value in a slot makes the claim of another value.
-    fn makes_claim(&self, slot: SlotIndex, other: &V) -> bool
-        ensures { result ≡ claims V.values (V.values.claim (V.values.meaning other.now)) (held V.values (state_on self.now.board.now self.now.row.now) self.now.node.node.0 slot.number) }
+    fn makes_claim(&self, slot: &Slot, other: &V) -> bool
+        ensures { result ≡ claims V.values (V.values.claim (V.values.meaning other.now)) (meant_at V.values self.now.row.now (record_at slot.now self.now.node.node.0).delivered) }
     {
-        match self.held(slot) {
-            Some(value) => value.same_claim(other),
-            None => false,
-        }
+        self.held(slot).is_some_and(|value| value.same_claim(other))
     }
 
     // No lower slot carries the value's claim.
     fn is_first(&self, slot: SlotIndex, value: &V) -> bool
         ensures { result ≡ first_claim V.values (state_on self.now.board.now self.now.row.now) self.now.node.node.0 slot.number (V.values.claim (V.values.meaning value.now)) }
     {
-        for number in 0..slot.number {
-            if self.makes_claim(SlotIndex { number }, value) {
-                return false;
-            }
-        }
-        true
+        self.board
+            .below(slot)
+            .iter()
+            .all(|lower| !self.makes_claim(lower, value))
     }
 
     // The delivery in a slot counts.
     fn is_counted(&self, slot: SlotIndex) -> bool
         ensures { result ≡ counts? V.values (state_on self.now.board.now self.now.row.now) self.now.node.node.0 slot.number }
     {
-        match self.held(slot) {
+        match self.held(self.board.slot(slot)) {
             Some(value) => self.is_first(slot, value),
             None => false,
         }
     }
 
     // Of the deliveries of the account in the first slots, how many count and how many are left out.
+    // A loop, since two chains, one for each number, would look each delivery up twice.
     pub(crate) fn tally(&self, slots: u32, account: u16) -> (u32, u32)
         requires { slots ≤ 16 }
         ensures { result ≡ tally_of V.values (of_slots slots) (state_on self.now.board.now self.now.row.now) self.now.node.node.0 account }
@@ -77,7 +70,7 @@ impl<'v, V: ValueKind> Deliveries<'v, V> {
         let mut left_out = 0;
         for number in 0..slots {
             let slot = SlotIndex { number };
-            if self.is_of(slot, account) {
+            if self.is_of(self.board.slot(slot), account) {
                 if self.is_counted(slot) {
                     counted += 1;
                 } else {
@@ -86,14 +79,5 @@ impl<'v, V: ValueKind> Deliveries<'v, V> {
             }
         }
         (counted, left_out)
-    }
-}
-
-impl Board {
-    // The place that a node delivered in a slot.
-    pub(crate) fn delivered(&self, slot: SlotIndex, node: Member) -> Option<Place>
-        ensures { result ≡ (record_at (slot_at self.now.slots slot.number) node.node.0).delivered }
-    {
-        self.slot(slot).records[node.index()].delivered
     }
 }

@@ -17,7 +17,7 @@ impl<'r, R: TrustRule> Panel<'r, R> {
     {
         let slot = self.slot(slot)?;
         let node = self.correct_member(node)?;
-        Ok(self.board.delivered(slot, node))
+        Ok(node.record_in(self.board.slot(slot)).delivered)
     }
 
     // The five counts of a slot.

@@ -1,12 +1,18 @@
-use Rattle.std.proofs.Common.{not, sym, ap, below_more}
-use Rattle.sets.proofs.Tests.{below_broken, below_held}
+use Rattle.std.proofs.Common.{◌≤◌, ◌∙◌, not, length, take, ap, arith, rules, tests, length-take}
+use Rattle.std.proofs.lemmas.Iterator.{YieldsList-from_slice}
+use Rattle.std.proofs.lemmas.Iterator.Search.{all_from_yields_List}
+use Rattle.broadcast.specs.Slots.{record_at}
+use Rattle.runs.specs.Calls.{no_slot}
+use Rattle.runs.specs.Readings.{meant_at, claims}
+use Rattle.panel.proofs.Tallies.{all_lower}
 use Rattle.panel.proofs.board.tallying.Deliveries.is_first.Goals as goal
 
-pub loop-number-preserved : goal.loop-number-preserved
-loop-number-preserved g c = below_more _ _ c.loop-number.invariant (ap not (sym c.if-makes_claim.ensures))
-
-pub returns-then-makes_claim : goal.returns-then-makes_claim
-returns-then-makes_claim g c = below_broken c.args.slot.number _ c.loop-number.number c.loop-number-test.true (ap not c.if-makes_claim.ensures)
-
 pub returns : goal.returns
-returns g c = below_held c.args.slot.number _ c.loop-number.number c.loop-number-test.false c.loop-number.invariant
+returns g c =
+    let values = g.V.ValueKind.values in
+    let d = c.args.self.now in
+    let slots = d.board.now.slots in
+    let n = c.args.slot.number in
+    let unclaimed = λ (s : _). not (claims values (values.claim (values.meaning c.args.value.now)) (meant_at values d.row.now (record_at s d.node.node.0).delivered)) in
+    let le : n ≤ length slots = omega (arith, ap length c.below.ensures.slots, c.below.ensures.count, length-take n slots) in
+    all_from_yields_List unclaimed _ _ c.all.result c.all.ensures.ran (YieldsList-from_slice (take n slots) cc) (λ s b q k. search (rules, tests)) ∙ all_lower unclaimed slots no_slot n le
