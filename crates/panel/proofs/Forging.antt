@@ -1,5 +1,5 @@
 -- What a forged message is answered, by the check that ended it, from what the code knows then.
-use Rattle.std.proofs.Common.{◌≡◌, ℕ, Bool, true, false, not, List, [], ◌∷◌, None, Ok, Err, Option, sym, refl, ap, ◌∙◌}
+use Rattle.std.proofs.Common.{◌≡◌, ◌&&◌, ◌||◌, ℕ, Bool, true, false, not, List, [], ◌∷◌, None, Ok, Err, Option, sym, refl, ap, ◌∙◌}
 use Rattle.trust.specs.declared.refusal.Refusal.TheVariants.{RollSize, NoSuch, WrongParty, Unfit, RollFull}
 use Rattle.trust.specs.Refusals.{first_of}
 use Rattle.protocol.specs.declared.message.Place.{Place}
@@ -12,6 +12,10 @@ use Rattle.panel.specs.Broadcasts.{IsRouteOf}
 use Rattle.panel.specs.declared.board.index.SlotIndex.{SlotIndex}
 use Rattle.panel.specs.declared.board.index.Route.{Route}
 use Rattle.panel.proofs.Refusing.{fails}
+
+turned : (a b : Bool) → (a || not b) ≡ not (not a && b)
+turned true b = refl
+turned false b = refl
 
 module _ {V : Type 0} (w : World) (places : ℕ) (x : State V) (n s i k : ℕ) (v : V) (fit : Bool) (known : Option Place) where
   abbrev IsAnswered : Answer → State V → Type 0
@@ -31,42 +35,35 @@ module _ {V : Type 0} (w : World) (places : ℕ) (x : State V) (n s i k : ℕ) (
       named : not (message? w n s i k) ≡ false
       named = fails (not (message? w n s i k)) NoSuch message
 
-      from : (b : Bool) → b ≡ correct w route.from.node.0 → correct w i ≡ b
-      from b e = ap (correct w) (sym same.same_from) ∙ sym e
+      goes : (b : Bool) → b ≡ (not (correct w route.from.node.0) && correct w route.to.node.0) → (correct w i || not (correct w k)) ≡ not b
+      goes b e = turned (correct w i) (correct w k) ∙ ap not (rw (← same.same_from, ← same.same_to) (sym e))
 
-      to : (b : Bool) → b ≡ correct w route.to.node.0 → correct w k ≡ b
-      to b e = ap (correct w) (sym same.same_to) ∙ sym e
+      pub wrong_party : false ≡ (not (correct w route.from.node.0) && correct w route.to.node.0) → IsAnswered (Err WrongParty) x
+      wrong_party e = rw (roll_fits, named, goes false e) refl
 
-      pub from_correct : true ≡ correct w route.from.node.0 → IsAnswered (Err WrongParty) x
-      from_correct e = rw (roll_fits, named, from true e) refl
+      module _ (party : true ≡ (not (correct w route.from.node.0) && correct w route.to.node.0)) where
+        pub unfit : false ≡ fit → IsAnswered (Err Unfit) x
+        unfit e = rw (roll_fits, named, goes true party, ← e) refl
 
-      module _ (faulty : false ≡ correct w route.from.node.0) where
-        pub to_faulty : false ≡ correct w route.to.node.0 → IsAnswered (Err WrongParty) x
-        to_faulty e = rw (roll_fits, named, from false faulty, to false e) refl
+        module _ (fits : true ≡ fit) where
+          abbrev Heeds : Bool → Type 0
+          Heeds b = b ≡ heeds_in w x.board slot.number route.kind route.from.node.0 route.to.node.0
 
-        module _ (party : true ≡ correct w route.to.node.0) where
-          pub unfit : false ≡ fit → IsAnswered (Err Unfit) x
-          unfit e = rw (roll_fits, named, from false faulty, to true party, ← e) refl
+          heeded : (b : Bool) → Heeds b → heeds_in w x.board s (kind n) i k ≡ b
+          heeded b e = rw (← same.same_kind, ← same.same_slot, ← same.same_from, ← same.same_to) (sym e)
 
-          module _ (fits : true ≡ fit) where
-            abbrev Heeds : Bool → Type 0
-            Heeds b = b ≡ heeds_in w x.board slot.number route.kind route.from.node.0 route.to.node.0
+          pub ignored : Heeds false → IsAnswered (Ok (Stepped Ignored)) x
+          ignored e = rw (roll_fits, named, goes true party, ← fits, heeded false e) refl
 
-            heeded : (b : Bool) → Heeds b → heeds_in w x.board s (kind n) i k ≡ b
-            heeded b e = rw (← same.same_kind, ← same.same_slot, ← same.same_from, ← same.same_to) (sym e)
+          module _ (heeds : Heeds true) where
+            pub full : roll_full x.used places known ≡ true → IsAnswered (Err RollFull) x
+            full e = rw (roll_fits, named, goes true party, ← fits, heeded true heeds, e) refl
 
-            pub ignored : Heeds false → IsAnswered (Ok (Stepped Ignored)) x
-            ignored e = rw (roll_fits, named, from false faulty, to true party, ← fits, heeded false e) refl
-
-            module _ (heeds : Heeds true) where
-              pub full : roll_full x.used places known ≡ true → IsAnswered (Err RollFull) x
-              full e = rw (roll_fits, named, from false faulty, to true party, ← fits, heeded true heeds, e) refl
-
-              pub hears : None ≡ first_of ((roll_full x.used places known, RollFull) ∷ []) → (r : Heard × List Slot)
-                  → hears_in w x.board slot.number route.kind route.from.node.0 route.to.node.0 (place_of x.used known) ≡ r
-                  → IsAnswered (Ok (Stepped r.0)) (entered x v known r.1)
-              hears e r is =
-                  let there : hears_in w x.board s (kind n) i k (place_of x.used known) ≡ r = rw (← same.same_kind, ← same.same_slot, ← same.same_from, ← same.same_to) is in
-                  let goes_on : forge w places x n s i k v fit known ≡ stepped x v known (hears_in w x.board s (kind n) i k (place_of x.used known)) =
-                  rw (roll_fits, named, from false faulty, to true party, ← fits, heeded true heeds, fails (roll_full x.used places known) RollFull e) refl in
-                  goes_on ∙ ap (stepped x v known) there
+            pub hears : None ≡ first_of ((roll_full x.used places known, RollFull) ∷ []) → (r : Heard × List Slot)
+                → hears_in w x.board slot.number route.kind route.from.node.0 route.to.node.0 (place_of x.used known) ≡ r
+                → IsAnswered (Ok (Stepped r.0)) (entered x v known r.1)
+            hears e r is =
+                let there : hears_in w x.board s (kind n) i k (place_of x.used known) ≡ r = rw (← same.same_kind, ← same.same_slot, ← same.same_from, ← same.same_to) is in
+                let goes_on : forge w places x n s i k v fit known ≡ stepped x v known (hears_in w x.board s (kind n) i k (place_of x.used known)) =
+                rw (roll_fits, named, goes true party, ← fits, heeded true heeds, fails (roll_full x.used places known) RollFull e) refl in
+                goes_on ∙ ap (stepped x v known) there

@@ -1,5 +1,5 @@
-ghost use Rattle.std.specs.Prelude.{◌≡◌};
-ghost use Rattle.runs.specs.Calls.{hears_in};
+ghost use Rattle.std.specs.Prelude.{◌≡◌, not, ◌&&◌};
+ghost use Rattle.runs.specs.Calls.{correct, hears_in};
 ghost use Rattle.runs.specs.declared.call.Call.TheVariants.{Forge};
 ghost use Rattle.panel.specs.Views.{world_of, Does, Hands};
 
@@ -29,6 +29,13 @@ impl<'r, R: TrustRule> Panel<'r, R> {
         self.board.hear(self.rule, slot, sender, route.to, message)
     }
 
+    // From a faulty node to a correct one.
+    fn is_forgeable(&self, route: Route) -> bool
+        ensures { result ≡ (not (correct (world_of R.meaning self.now) route.from.node.0) && correct (world_of R.meaning self.now) route.to.node.0) }
+    {
+        !self.is_correct(route.from.node) && self.is_correct(route.to.node)
+    }
+
     // A faulty node's message, with any fit value, reaches a correct node.
     pub fn forge<V: ValueKind + Copy>(
         &mut self,
@@ -43,7 +50,7 @@ impl<'r, R: TrustRule> Panel<'r, R> {
     {
         self.check_roll(roll.len())?;
         let (slot, route) = self.route(kind, slot, from, to)?;
-        if self.is_correct(route.from.node) || !self.is_correct(route.to.node) {
+        if !self.is_forgeable(route) {
             return Err(Refusal::WrongParty);
         }
         if !value.fit() {

@@ -5,9 +5,8 @@ use Rattle.runs.specs.Calls.{message?, roll_size, roll_full, hears_in, forge}
 use Rattle.panel.specs.Views.{world_of, state_of}
 use Rattle.panel.proofs.Refusing.{fails}
 use Rattle.panel.proofs.Answering.{known_is, refuses, unchanged, enters}
-use Rattle.panel.proofs.Forging.{roll_unfit, no_message, from_correct, to_faulty, unfit, ignored, full, hears}
+use Rattle.panel.proofs.Forging.{roll_unfit, no_message, wrong_party, unfit, ignored, full, hears}
 use Rattle.panel.proofs.panel.Panel.forge.Goals as goal
-use Rattle.panel.proofs.panel.Panel.forge.Goals.{then-is_correct-via-then-is_correct, then-is_correct-via-else-is_correct+then-not-is_correct}
 
 pub returns-in_err-check_roll : goal.returns-in_err-check_roll
 returns-in_err-check_roll g c =
@@ -25,33 +24,26 @@ returns-in_err-slot g c =
     c.in_err-slot.ensures.refused c.from_residual-in_err-slot.ensures.1
     (λ out row carries. no_message w (length c.args.roll.now) (state_of p row) c.args.kind c.args.slot c.args.from c.args.to c.args.value _ _ c.in_ok-check_roll.ensures.refused out)
 
-pub returns-then-is_correct : goal.returns-then-is_correct
-returns-then-is_correct g c =
+pub returns-then-not-is_forgeable : goal.returns-then-not-is_forgeable
+returns-then-not-is_forgeable g c =
     let p = c.args.self.now in
-    let w = world_of g.R.TrustRule.meaning p in
     unchanged g.V.ValueKind.values g.R.TrustRule.meaning p c.args.roll.now _ _ (λ row carries.
-    elim c.then-is_correct.branch [
-      | then-is_correct-via-then-is_correct w' ↦
-          from_correct w (length c.args.roll.now) (state_of p row) c.args.kind c.args.slot c.args.from c.args.to c.args.value _ _
-          c.in_ok-check_roll.ensures.refused c.in_ok-slot.ensures.refused c.in_ok-slot.slot c.in_ok-slot.route c.in_ok-slot.ensures.same w'.if-is_correct.ensures
-      | then-is_correct-via-else-is_correct+then-not-is_correct w' ↦
-          to_faulty w (length c.args.roll.now) (state_of p row) c.args.kind c.args.slot c.args.from c.args.to c.args.value _ _
-          c.in_ok-check_roll.ensures.refused c.in_ok-slot.ensures.refused c.in_ok-slot.slot c.in_ok-slot.route c.in_ok-slot.ensures.same w'.if-is_correct.ensures w'.if-not-is_correct.ensures
-    ])
+    wrong_party (world_of g.R.TrustRule.meaning p) (length c.args.roll.now) (state_of p row) c.args.kind c.args.slot c.args.from c.args.to c.args.value _ _
+    c.in_ok-check_roll.ensures.refused c.in_ok-slot.ensures.refused c.in_ok-slot.slot c.in_ok-slot.route c.in_ok-slot.ensures.same c.if-not-is_forgeable.ensures)
 
 pub returns-then-not-fit : goal.returns-then-not-fit
 returns-then-not-fit g c =
     let p = c.args.self.now in
     unchanged g.V.ValueKind.values g.R.TrustRule.meaning p c.args.roll.now _ _ (λ row carries.
     unfit (world_of g.R.TrustRule.meaning p) (length c.args.roll.now) (state_of p row) c.args.kind c.args.slot c.args.from c.args.to c.args.value _ _
-    c.in_ok-check_roll.ensures.refused c.in_ok-slot.ensures.refused c.in_ok-slot.slot c.in_ok-slot.route c.in_ok-slot.ensures.same c.if-is_correct.ensures c.if-not-is_correct.ensures c.if-not-fit.ensures)
+    c.in_ok-check_roll.ensures.refused c.in_ok-slot.ensures.refused c.in_ok-slot.slot c.in_ok-slot.route c.in_ok-slot.ensures.same c.if-not-is_forgeable.ensures c.if-not-fit.ensures)
 
 pub returns-then-not-heeds : goal.returns-then-not-heeds
 returns-then-not-heeds g c =
     let p = c.args.self.now in
     unchanged g.V.ValueKind.values g.R.TrustRule.meaning p c.args.roll.now _ _ (λ row carries.
     ignored (world_of g.R.TrustRule.meaning p) (length c.args.roll.now) (state_of p row) c.args.kind c.args.slot c.args.from c.args.to c.args.value _ _
-    c.in_ok-check_roll.ensures.refused c.in_ok-slot.ensures.refused c.in_ok-slot.slot c.in_ok-slot.route c.in_ok-slot.ensures.same c.if-is_correct.ensures c.if-not-is_correct.ensures c.if-not-fit.ensures
+    c.in_ok-check_roll.ensures.refused c.in_ok-slot.ensures.refused c.in_ok-slot.slot c.in_ok-slot.route c.in_ok-slot.ensures.same c.if-not-is_forgeable.ensures c.if-not-fit.ensures
     c.if-not-heeds.ensures)
 
 pub returns-in_err-place : goal.returns-in_err-place
@@ -67,7 +59,7 @@ returns-in_err-place g c =
     ap (forge w n (state_of p row) c.args.kind c.args.slot c.args.from c.args.to c.args.value _)
     (known_is values p.board.used row c.args.roll.now c.args.value c.find-known.result carries c.in_ok-check_roll.ensures.ok.0 c.find-known.ensures)
     ∙ full w n (state_of p row) c.args.kind c.args.slot c.args.from c.args.to c.args.value _ c.find-known.result
-    c.in_ok-check_roll.ensures.refused c.in_ok-slot.ensures.refused c.in_ok-slot.slot c.in_ok-slot.route c.in_ok-slot.ensures.same c.if-is_correct.ensures c.if-not-is_correct.ensures c.if-not-fit.ensures
+    c.in_ok-check_roll.ensures.refused c.in_ok-slot.ensures.refused c.in_ok-slot.slot c.in_ok-slot.route c.in_ok-slot.ensures.same c.if-not-is_forgeable.ensures c.if-not-fit.ensures
     c.if-not-heeds.ensures out)
 
 pub returns : goal.returns
@@ -84,7 +76,7 @@ returns g c =
     ap (forge w n (state_of p row) c.args.kind c.args.slot c.args.from c.args.to c.args.value _)
     (known_is values p.board.used row c.args.roll.now c.args.value known carries c.in_ok-check_roll.ensures.ok.0 c.find-known.ensures)
     ∙ hears w n (state_of p row) c.args.kind c.args.slot c.args.from c.args.to c.args.value _ known
-    c.in_ok-check_roll.ensures.refused c.in_ok-slot.ensures.refused c.in_ok-slot.slot c.in_ok-slot.route c.in_ok-slot.ensures.same c.if-is_correct.ensures c.if-not-is_correct.ensures c.if-not-fit.ensures
+    c.in_ok-check_roll.ensures.refused c.in_ok-slot.ensures.refused c.in_ok-slot.slot c.in_ok-slot.route c.in_ok-slot.ensures.same c.if-not-is_forgeable.ensures c.if-not-fit.ensures
     c.if-not-heeds.ensures c.in_ok-place.ensures.full _
     (ap₂ (λ b q. hears_in w b c.in_ok-slot.slot.number c.in_ok-slot.route.kind c.in_ok-slot.route.from.node.0 c.in_ok-slot.route.to.node.0 q) (sym c.in_ok-place.ensures.slots) (sym c.in_ok-place.ensures.place)
     ∙ c.bring.ensures.hears))
