@@ -3,6 +3,7 @@ use Rattle.std.specs.Prelude.{◌≡◌, ℕ, ◌≤◌, Bool, true, false, cond
 use Rattle.sets.specs.Sets.{nodes_with}
 use Rattle.trust.specs.Trust.{Trust, holds_quorum, holds_kernel}
 use Rattle.protocol.specs.Hearing.{absent, is, entry}
+use Rattle.protocol.specs.Kinds.{kind_number}
 use Rattle.protocol.specs.declared.message.Place.{Place}
 use Rattle.protocol.specs.declared.message.Kind.{Kind}
 use Rattle.protocol.specs.declared.message.Kind.TheVariants.{Send, Echo, Ready}
@@ -30,15 +31,7 @@ OneOutcome {V} values =
     → asked g ≡ asked h → (g ≡ h) × (x ≡ y)
 
 abbrev pub same_kind : Kind → Kind → Bool
-same_kind Send Send = true
-same_kind Send Echo = false
-same_kind Send Ready = false
-same_kind Echo Send = false
-same_kind Echo Echo = true
-same_kind Echo Ready = false
-same_kind Ready Send = false
-same_kind Ready Echo = false
-same_kind Ready Ready = true
+same_kind a b = kind_number a == kind_number b
 
 -- some call of a history passes, by its answer too
 unfoldable pub some : {V : Type 0} → (Call V → Answer → Bool) → History V → Bool
