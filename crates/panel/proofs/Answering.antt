@@ -1,42 +1,32 @@
 -- What a call's code did, as the statement has it: the refusal by what is known, the state left as it was, a value entered.
-use Rattle.std.proofs.Common.{◌≡◌, ℕ, ◌+◌, ◌<◌, ◌≤◌, false, cond, ◌||◌, eqb, ltb, List, [], ◌∷◌, ◌++◌, length, take, drop, set, Some, None, Option, sym, refl, ap, ◌∙◌, subst, ap₂, arith, length-set}
+use Rattle.std.proofs.Common.{◌≡◌, ℕ, ◌+◌, ◌<◌, ◌≤◌, Bool, true, false, cond, List, [], ◌∷◌, ◌++◌, length, take, drop, set, Some, None, Option, sym, refl, ap, ◌∙◌, subst, ap₂, arith, length-set, Err}
 use Rattle.std.proofs.lemmas.List.{take_all, take_more_set, length_push, drop-set-lt}
-use Rattle.std.proofs.lemmas.Bool.{leb-false, ltb-false, or_parts}
+use Rattle.std.proofs.lemmas.Bool.{leb-false}
+use Rattle.std.proofs.lemmas.Result.{err_from_is_err_and}
+use Rattle.std.specs.Result.{IsErrAnd}
 use Rattle.trust.specs.declared.refusal.Refusal.{Refusal}
+use Rattle.trust.specs.Refusals.{first_of}
 use Rattle.trust.specs.Trust.{Trust}
 use Rattle.protocol.specs.Hearing.{absent}
 use Rattle.protocol.specs.declared.message.Place.{Place}
 use Rattle.protocol.specs.declared.slot.Slot.{Slot}
 use Rattle.runs.specs.declared.call.Call.{Call}
 use Rattle.runs.specs.declared.call.Call.TheVariants.{Hand}
-use Rattle.runs.specs.declared.call.Answer.{Answer}
 use Rattle.runs.specs.Values.{Values}
-use Rattle.runs.specs.Calls.{known_in, roll_size, roll_full, entered, refuse_or, handed_on, answer}
+use Rattle.runs.specs.Calls.{known_in, roll_full, entered, handed_on, answer, Answer}
 use Rattle.runs.specs.Promise.{CameAbout}
 use Rattle.runs.specs.Promise.CameAbout.{called}
 use Rattle.panel.specs.declared.panel.Panel.{Panel}
+use Rattle.panel.proofs.Refusing.{holds}
 use Rattle.panel.specs.Views.{world_of, state_of, Carries, Does, Hands}
 
--- a roll that is long enough has the row
-pub used_within : (used places : ℕ) → roll_size used places ≡ false → used ≤ places
-used_within used places e = ltb-false places used (or_parts (eqb places 0 || ltb 255 places) (ltb places used) e).1
-
-pub few_places : (used places : ℕ) → roll_size used places ≡ false → places ≤ 255
-few_places used places e = ltb-false 255 places (or_parts (eqb places 0) (ltb 255 places) (or_parts (eqb places 0 || ltb 255 places) (ltb places used) e).0).1
-
-pub row_is : {V : Type 0} (used : ℕ) (row roll : List V) → Carries used row roll → used ≤ length roll → take used roll ≡ row
+-- the used places of a roll that is long enough are the row, so a value is known among them as in the row
+row_is : {V : Type 0} (used : ℕ) (row roll : List V) → Carries used row roll → used ≤ length roll → take used roll ≡ row
 row_is used row roll carries le = carries.front ∙ take_all (length roll) row (omega (arith, carries.all))
 
-pub known_is : {V : Type 0} (values : Values V) (used : ℕ) (row roll : List V) (v : V) (known : Option Place) → Carries used row roll → known ≡ known_in values (take used roll) v
-    → roll_size used (length roll) ≡ false → known ≡ known_in values row v
-known_is values used row roll v known carries e fits = e ∙ ap (λ r. known_in values r v) (row_is used row roll carries (used_within used (length roll) fits))
-
--- one part of a refused call, and of one that is not
-pub is_refused : {A : Type 0} (o : Option Refusal) (e : Refusal) (x : A) (y : Answer × A) → o ≡ Some e → refuse_or o x y ≡ refuse_or (Some e) x y
-is_refused o e x y h = ap (λ p. refuse_or p x y) h
-
-pub is_free : {A : Type 0} (o : Option Refusal) (x : A) (y : Answer × A) → o ≡ None → refuse_or o x y ≡ y
-is_free o x y h = ap (λ p. refuse_or p x y) h
+pub known_is : {V : Type 0} (values : Values V) (used : ℕ) (row roll : List V) (v : V) (known : Option Place) → Carries used row roll → used ≤ length roll
+    → known ≡ known_in values (take used roll) v → known_in values row v ≡ known
+known_is values used row roll v known carries le e = ap (λ r. known_in values r v) (sym (row_is used row roll carries le)) ∙ sym e
 
 module _ {R V : Type 0} (values : Values V) (meaning : R → Trust) (p : Panel R) (roll : List V) (c : Call V) where
   -- a call's history, from its answer
@@ -60,10 +50,33 @@ module _ {R V : Type 0} (values : Values V) (meaning : R → Trust) (p : Panel R
         );
   }
 
-  -- a call that leaves panel and roll as they were
+  -- a call that leaves the board and the roll as they were
+  pub same_state : (a : Answer) (q : Panel R) (after : List V)
+      → world_of meaning q ≡ world_of meaning p → q.board.used ≡ p.board.used → q.board.slots ≡ p.board.slots → after ≡ roll
+      → ((row : List V) → Carries p.board.used row roll → answer values (world_of meaning p) (length roll) (state_of p row) c ≡ (a, state_of p row))
+      → Does values meaning p roll c a q after
+  same_state a q after w u s r h =
+      does a q after w (ap length r) (omega (arith, u)) (ap (drop q.board.used) r) (λ row carries. (
+        row,
+        record { all = carries.all ∙ sym u; front = ap₂ take u r ∙ carries.front ∙ ap (λ l. take l row) (ap length (sym r)) },
+        h row carries ∙ ap₂ (λ n x. (a, record { used = n; row = row; board = x })) (sym u) (sym s),
+      ))
+
   pub unchanged : (a : Answer) → ((row : List V) → Carries p.board.used row roll → answer values (world_of meaning p) (length roll) (state_of p row) c ≡ (a, state_of p row))
       → Does values meaning p roll c a p roll
-  unchanged a h = does a p roll refl refl (omega arith) refl (λ row carries. (row, carries, h row carries))
+  unchanged a h = same_state a p roll refl refl refl refl h
+
+  -- a call that a `?` ends after a check of one condition
+  pub refuses : (b : Bool) (n e : Refusal) (a : Answer) (q : Panel R) (after : List V)
+      → world_of meaning q ≡ world_of meaning p → q.board.used ≡ p.board.used → q.board.slots ≡ p.board.slots → after ≡ roll
+      → Some e ≡ first_of ((b, n) ∷ []) → IsErrAnd a (λ d. d ≡ e)
+      → (b ≡ true → (row : List V) → Carries p.board.used row roll → answer values (world_of meaning p) (length roll) (state_of p row) c ≡ (Err n, state_of p row))
+      → Does values meaning p roll c a q after
+  refuses b n e a q after w u s r checked ended h =
+      let (there, is) = holds b n e checked in
+      let (d, a_is, d_is) = err_from_is_err_and a ended in
+      let same : a ≡ Err n = cc in
+      subst (λ z. Does values meaning p roll c z q after) (sym same) (same_state (Err n) q after w u s r (h there))
 
   -- a call after which a value has its place and the board is b
   pub enters : (a : Answer) (v : V) (known : Option Place) (b : List Slot) (q : Panel R) (after : List V)
@@ -76,7 +89,7 @@ module _ {R V : Type 0} (values : Values V) (meaning : R → Trust) (p : Panel R
       → ((row : List V) → Carries p.board.used row roll → answer values (world_of meaning p) (length roll) (state_of p row) c ≡ (a, entered (state_of p row) v known b))
       → Does values meaning p roll c a q after
   enters a v (Some k) b q after w u s r within free h =
-      does a q after w (ap length r) (omega arith) (ap (drop q.board.used) r) (λ row carries. (
+      does a q after w (ap length r) (omega (arith, u)) (ap (drop q.board.used) r) (λ row carries. (
         row,
         record { all = carries.all ∙ sym u; front = ap₂ take u r ∙ carries.front ∙ ap (λ l. take l row) (ap length (sym r)) },
         h row carries ∙ ap₂ (λ n x. (a, record { used = n; row = row; board = x })) (sym u) (sym s),

@@ -1,27 +1,23 @@
--- The walk along a row to the lowest place of a value.
-use Rattle.std.proofs.Common.{◌≡◌, ℕ, suc, ◌+◌, ◌<◌, ◌≤◌, true, false, cond, List, length, get_or, drop, Some, None, Option, sym, ap, ◌∙◌, add-one}
-use Rattle.std.proofs.lemmas.List.{at_drop_more, at_drop_all}
-use Rattle.std.proofs.lemmas.Bool.{cond-true, cond-false}
+-- The place at which a value is known is the position of the first that is the same.
+use Rattle.std.proofs.Common.{◌≡◌, ℕ, suc, ◌+◌, Bool, true, false, cond, List, [], ◌∷◌, Some, refl, ap, ◌∙◌, add-one}
+use Rattle.std.specs.List.{position_from}
+use Rattle.std.specs.Option.{option_map}
 use Rattle.protocol.specs.declared.message.Place.{Place}
 use Rattle.runs.specs.Values.{Values}
-use Rattle.runs.specs.Calls.{known_from, known_in}
+use Rattle.runs.specs.Calls.{known_from}
 
-module _ {V : Type 0} (values : Values V) (xs : List V) (v : V) (i : ℕ) (so_far : known_from values i (drop i xs) v ≡ known_in values xs v) where
-  -- the walk from i on begins with the test of the value there
-  tests : (x : V) → i < length xs → x ≡ get_or xs i x
-      → known_in values xs v ≡ cond (values.same (values.meaning x) (values.meaning v)) (Some (record { 0 = i })) (known_from values (suc i) (drop (i + 1) xs) v)
-  tests x l is =
-      sym so_far ∙ at_drop_more (λ l. known_from values i l v) xs i x l
-      ∙ ap (λ y. cond (values.same (values.meaning y) (values.meaning v)) (Some (record { 0 = i })) (known_from values (suc i) (drop (i + 1) xs) v)) (sym is)
+module _ {V : Type 0} (values : Values V) (v : V) where
+  abbrev pub same_as : V → Bool
+  same_as u = values.same (values.meaning u) (values.meaning v)
 
-  pub found_here : (x : V) → i < length xs → x ≡ get_or xs i x → true ≡ values.same (values.meaning x) (values.meaning v) → Some (record { 0 = i }) ≡ known_in values xs v
-  found_here x l is t = sym (tests x l is ∙ cond-true (values.same (values.meaning x) (values.meaning v)) _ _ (sym t))
+  abbrev pub place_at : ℕ → Place
+  place_at i = record { 0 = i }
 
-  pub not_here : (x : V) → i < length xs → x ≡ get_or xs i x → false ≡ values.same (values.meaning x) (values.meaning v)
-      → known_from values (i + 1) (drop (i + 1) xs) v ≡ known_in values xs v
-  not_here x l is t =
-      ap (λ p. known_from values p (drop (i + 1) xs) v) (add-one i)
-      ∙ sym (tests x l is ∙ cond-false (values.same (values.meaning x) (values.meaning v)) _ _ (sym t))
-
-  pub nowhere : length xs ≤ i → ◌≡◌ {A = Option Place} None (known_in values xs v)
-  nowhere le = sym (sym so_far ∙ at_drop_all (λ l. known_from values i l v) xs i le)
+  pub known_is_position : (n : ℕ) (row : List V) → option_map place_at (position_from same_as n row) ≡ known_from values n row v
+  known_is_position n [] = refl
+  known_is_position n (u ∷ us) = go (known_is_position (n + 1) us) (same_as u)
+    where
+      go : option_map place_at (position_from same_as (n + 1) us) ≡ known_from values (n + 1) us v
+          → (b : Bool) → option_map place_at (cond b (Some n) (position_from same_as (n + 1) us)) ≡ cond b (Some (place_at n)) (known_from values (suc n) us v)
+      go rest true = refl
+      go rest false = rest ∙ ap (λ k. known_from values k us v) (add-one n)

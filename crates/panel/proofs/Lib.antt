@@ -6,7 +6,5 @@ pub mod Forging
 pub mod Playing
 pub mod Promising
 pub mod Nodes
-pub mod Holding
 pub mod Tallies
 pub mod Settings
-pub mod Rolls

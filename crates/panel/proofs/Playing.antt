@@ -3,10 +3,9 @@ use Rattle.std.proofs.Common.{◌≡◌, ℕ, ◌+◌, ◌-◌, ◌<◌, ◌≤�
 use Rattle.std.proofs.lemmas.List.{map_push, drop-drop, get_or-drop, take_more, take_more_set, take_all, drop-set-lt}
 use Rattle.trust.specs.Trust.{Trust}
 use Rattle.runs.specs.declared.call.Call.{Call}
-use Rattle.runs.specs.declared.call.Answer.{Answer}
 use Rattle.runs.specs.declared.call.Entry.{Entry}
 use Rattle.runs.specs.Values.{Values}
-use Rattle.runs.specs.Calls.{World, State, answer}
+use Rattle.runs.specs.Calls.{World, State, answer, Answer}
 use Rattle.panel.specs.declared.panel.Panel.{Panel}
 use Rattle.panel.specs.Views.{world_of, state_of, Does}
 use Rattle.panel.specs.Playing.{played, call_of, answer_of, Plays}
@@ -26,17 +25,7 @@ drop_further a b xs ys le e =
     ap (λ k. drop k xs) (sym more) ∙ sym (drop-drop (b - a) a xs) ∙ ap (drop (b - a)) e ∙ drop-drop (b - a) a ys ∙ ap (λ k. drop k ys) more
 
 module _ {R V : Type 0} (values : Values V) (meaning : R → Trust) (p : Panel R) (roll : List V) where
-  pub plays_none : Plays values meaning p roll [] p roll []
-  plays_none = record {
-    same_world = refl;
-    same_length = refl;
-    grows = omega arith;
-    beyond = refl;
-    same_calls = refl;
-    answers = λ row carries. (row, carries, refl);
-  }
-
-  pub plays_more : (list log : List (Entry V)) (q q' : Panel R) (after after' : List V) (e : Entry V) (a : Answer)
+  plays_more : (list log : List (Entry V)) (q q' : Panel R) (after after' : List V) (e : Entry V) (a : Answer)
       → Plays values meaning p roll list q after log → Does values meaning q after e.call a q' after'
       → Plays values meaning p roll (list ++ (e ∷ [])) q' after' (log ++ (record { call = e.call; answer = a } ∷ []))
   plays_more list log q q' after after' e a so_far next =

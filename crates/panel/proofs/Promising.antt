@@ -1,10 +1,9 @@
 -- What was played came about, so the promise holds of it.
 use Rattle.std.proofs.Common.{◌≡◌, ℕ, List, [], ◌∷◌, map, length, sym, ap, ◌∙◌, subst, ap₂}
 use Rattle.trust.specs.Trust.{Trust}
-use Rattle.runs.specs.declared.call.Answer.{Answer}
 use Rattle.runs.specs.declared.call.Entry.{Entry}
 use Rattle.runs.specs.Values.{Values}
-use Rattle.runs.specs.Calls.{World, State, answer}
+use Rattle.runs.specs.Calls.{World, State, answer, Answer}
 use Rattle.runs.specs.Promise.{History, CameAbout}
 use Rattle.runs.specs.Promise.CameAbout.{called}
 use Rattle.runs.proofs.Promised.{kept}

@@ -1,49 +1,55 @@
--- A proposal by what the code found of its value.
-use Rattle.std.proofs.Common.{◌≡◌, ℕ, Bool, true, false, cond, not, List, [], ◌∷◌, Some, None, Option, sym, ap, ◌∙◌, ap₂}
-use Rattle.std.proofs.lemmas.Bool.{cond-true, cond-false}
-use Rattle.trust.specs.declared.refusal.Refusal.{Refusal}
+-- What a proposal is answered, by the check that ended it, from what the code knows then.
+use Rattle.std.proofs.Common.{◌≡◌, ℕ, Bool, true, false, not, [], ◌∷◌, Some, None, Ok, Err, Option, sym, refl, ap, ◌∙◌}
 use Rattle.trust.specs.declared.refusal.Refusal.TheVariants.{RollSize, NoSuch, WrongParty, Unfit, OtherProposal, RollFull}
 use Rattle.trust.specs.Refusals.{first_of}
-use Rattle.protocol.specs.Hearing.{absent}
+use Rattle.protocol.specs.Hearing.{is}
 use Rattle.protocol.specs.declared.message.Place.{Place}
-use Rattle.runs.specs.declared.call.Answer.TheVariants.{Proposed, Already, Refused}
-use Rattle.runs.specs.Calls.{World, State, sender, correct, slot_at, slot?, roll_size, roll_full, other_proposal, place_of, entered, with_proposal, propose, propose_refusals}
-use Rattle.panel.proofs.Refusing.{none_holds, after_first}
-use Rattle.panel.proofs.Answering.{is_refused, is_free}
+use Rattle.broadcast.proofs.Places.{is_some}
+use Rattle.runs.specs.declared.call.Outcome.TheVariants.{Proposed, Already}
+use Rattle.runs.specs.Calls.{World, State, Answer, sender, correct, slot_at, slot?, roll_size, roll_full, place_of, entered, with_proposal, propose}
+use Rattle.panel.proofs.Refusing.{fails}
 
-module _ {V : Type 0} (w : World) (places : ℕ) (x : State V) (s : ℕ) (v : V) (fit fit' : Bool) (known known' : Option Place)
-    (fit_is : fit ≡ fit') (known_same : roll_size x.used places ≡ false → known ≡ known') where
-  -- as the code sees the state, which has no row
-  abbrev seen : State (Unit {0})
-  seen = record { used = x.used; row = []; board = x.board }
+module _ {V : Type 0} (w : World) (places : ℕ) (x : State V) (s : ℕ) (v : V) (fit : Bool) (known : Option Place) where
+  abbrev IsAnswered : Answer → State V → Type 0
+  IsAnswered a y = propose w places x s v fit known ≡ (a, y)
 
-  abbrev later : Bool → Option Place → List (Bool × Refusal)
-  later f k =
-      (not (slot? w s), NoSuch)
-      ∷ ((not (correct w (sender w s)), WrongParty)
-      ∷ ((not f, Unfit)
-      ∷ ((other_proposal (slot_at x.board s).proposal k, OtherProposal)
-      ∷ ((roll_full x.used places k, RollFull)
-      ∷ []))))
+  pub roll_unfit : roll_size x.used places ≡ true → IsAnswered (Err RollSize) x
+  roll_unfit e = rw e refl
 
-  same_refusal : first_of (propose_refusals w seen places s fit known) ≡ first_of (propose_refusals w x places s fit' known')
-  same_refusal = after_first (roll_size x.used places) RollSize (later fit known) (later fit' known') (λ fits. ap₂ (λ f k. first_of (later f k)) fit_is (known_same fits))
+  module _ (roll : None ≡ first_of ((roll_size x.used places, RollSize) ∷ [])) where
+    roll_fits : roll_size x.used places ≡ false
+    roll_fits = fails (roll_size x.used places) RollSize roll
 
-  pub propose_refused : (e : Refusal) → Some e ≡ first_of (propose_refusals w seen places s fit known) → propose w places x s v fit' known' ≡ (Refused e, x)
-  propose_refused e h = is_refused (first_of (propose_refusals w x places s fit' known')) e x _ (sym same_refusal ∙ sym h)
+    pub no_slot : not (slot? w s) ≡ true → IsAnswered (Err NoSuch) x
+    no_slot e = rw (roll_fits, e) refl
 
-  module _ (free : None ≡ first_of (propose_refusals w seen places s fit known)) where
-    goes_on : propose w places x s v fit' known' ≡ cond (absent (slot_at x.board s).proposal) (Proposed, entered x v known' (with_proposal x.board s (place_of x.used known'))) (Already, x)
-    goes_on = is_free (first_of (propose_refusals w x places s fit' known')) x _ (sym same_refusal ∙ sym free)
+    module _ (slot : None ≡ first_of ((not (slot? w s), NoSuch) ∷ [])) (at : ℕ) (same : at ≡ s) where
+      in_slots : not (slot? w s) ≡ false
+      in_slots = fails (not (slot? w s)) NoSuch slot
 
-    pub roll_fits : (roll_size x.used places ≡ false) × (roll_full x.used places known ≡ false)
-    roll_fits = let all = none_holds (propose_refusals w seen places s fit known) (sym free) in (all.0, all.1.1.1.1.1.0)
+      sends : (b : Bool) → b ≡ correct w (sender w at) → correct w (sender w s) ≡ b
+      sends b e = ap (λ t. correct w (sender w t)) (sym same) ∙ sym e
 
-    pub already_proposed : absent (slot_at x.board s).proposal ≡ false → propose w places x s v fit' known' ≡ (Already, x)
-    already_proposed h = goes_on ∙ cond-false (absent (slot_at x.board s).proposal) _ _ h
+      pub faulty_sender : false ≡ correct w (sender w at) → IsAnswered (Err WrongParty) x
+      faulty_sender e = rw (roll_fits, in_slots, sends false e) refl
 
-    pub now_proposed : absent (slot_at x.board s).proposal ≡ true
-        → propose w places x s v fit' known' ≡ (Proposed, entered x v known (with_proposal x.board s (place_of x.used known)))
-    now_proposed h =
-        goes_on ∙ cond-true (absent (slot_at x.board s).proposal) _ _ h
-        ∙ ap (λ k. (Proposed, entered x v k (with_proposal x.board s (place_of x.used k)))) (sym (known_same roll_fits.0))
+      module _ (party : true ≡ correct w (sender w at)) where
+        pub unfit : false ≡ fit → IsAnswered (Err Unfit) x
+        unfit e = rw (roll_fits, in_slots, sends true party, ← e) refl
+
+        module _ (fits : true ≡ fit) where
+          there : (o : Option Place) → (slot_at x.board at).proposal ≡ o → (slot_at x.board s).proposal ≡ o
+          there o e = ap (λ t. (slot_at x.board t).proposal) (sym same) ∙ e
+
+          pub other : (p : Place) → (slot_at x.board at).proposal ≡ Some p → false ≡ is p known → IsAnswered (Err OtherProposal) x
+          other p e d = rw (roll_fits, in_slots, sends true party, ← fits, there (Some p) e, ← d) refl
+
+          pub again : (p : Place) → (slot_at x.board at).proposal ≡ Some p → true ≡ is p known → IsAnswered (Ok Already) x
+          again p e d = rw (roll_fits, in_slots, sends true party, ← fits, there (Some p) e, ← d, is_some p known (sym d)) refl
+
+          module _ (none : (slot_at x.board at).proposal ≡ None) where
+            pub full : roll_full x.used places known ≡ true → IsAnswered (Err RollFull) x
+            full e = rw (roll_fits, in_slots, sends true party, ← fits, there None none, e) refl
+
+            pub proposes : None ≡ first_of ((roll_full x.used places known, RollFull) ∷ []) → IsAnswered (Ok Proposed) (entered x v known (with_proposal x.board at (place_of x.used known)))
+            proposes e = rw (same, roll_fits, in_slots, sends true party, ← fits, there None none, fails (roll_full x.used places known) RollFull e) refl

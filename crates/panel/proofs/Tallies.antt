@@ -1,5 +1,9 @@
 -- A loop over the slots that counts a node's deliveries of an account, those that count and those that are left out.
-use Rattle.std.proofs.Common.{◌≡◌, ℕ, ◌+◌, ◌≤◌, Bool, true, false, cond, not, ◌&&◌, sym, refl, ap, ◌∙◌, ap₂, add-one, arith}
+use Rattle.std.proofs.Common.{◌≡◌, ℕ, zero, suc, ◌+◌, ◌≤◌, List, [], ◌∷◌, length, get_or, take, Bool, true, false, cond, not, ◌&&◌, sym, refl, ap, ◌∙◌, ap₂, add-one, arith}
+use Rattle.std.specs.List.{list_all}
+use Rattle.std.proofs.lemmas.List.Folds.{list_all-append}
+use Rattle.std.proofs.Math.Seq.{take-suc}
+use Rattle.sets.specs.Sets.{all_below}
 use Rattle.runs.specs.Values.{Values}
 use Rattle.runs.specs.Calls.{State}
 use Rattle.runs.specs.Readings.{held, counts?, of_account, count_below, tally_of}
@@ -10,6 +14,20 @@ unfolding count_below
 count_more p i m n b so_far is adds =
     let e : cond {A = ℕ} (p i) 1 0 ≡ cond b 1 0 = ap (λ t. cond t 1 0) is in
     rw add-one (omega arith)
+
+and_turned : (a b : Bool) → (a && (b && true)) ≡ (b && a)
+and_turned true true = refl
+and_turned true false = refl
+and_turned false true = refl
+and_turned false false = refl
+
+-- each of the first elements of a list passes
+pub all_lower : {X : Type 0} (p : X → Bool) (xs : List X) (d : X) (n : ℕ) → n ≤ length xs → list_all p (take n xs) ≡ all_below n (λ k. p (get_or xs k d))
+unfolding all_below
+all_lower p xs d zero le = refl
+all_lower p xs d (suc n) le =
+    ap (list_all p) (take-suc xs n d le) ∙ list_all-append p (take n xs) (get_or xs n d ∷ [])
+    ∙ ap (λ a. a && (p (get_or xs n d) && true)) (all_lower p xs d n (omega arith)) ∙ and_turned (all_below n (λ k. p (get_or xs k d))) (p (get_or xs n d))
 
 module _ {V : Type 0} (values : Values V) (x : State V) (node account : ℕ) where
   abbrev pub tally_below : ℕ → ℕ × ℕ

@@ -1,4 +1,4 @@
 pub mod Views
 pub mod Playing
-pub mod Fates
+pub mod Broadcasts
 pub mod Boards

@@ -2,10 +2,9 @@
 use Rattle.std.specs.Prelude.{◌≡◌, ℕ, ◌≤◌, List, [], ◌∷◌, map, length, drop}
 use Rattle.trust.specs.Trust.{Trust}
 use Rattle.runs.specs.declared.call.Call.{Call}
-use Rattle.runs.specs.declared.call.Answer.{Answer}
 use Rattle.runs.specs.declared.call.Entry.{Entry}
 use Rattle.runs.specs.Values.{Values}
-use Rattle.runs.specs.Calls.{World, State, answer}
+use Rattle.runs.specs.Calls.{World, State, answer, Answer}
 use Rattle.runs.specs.Promise.{History, CameAbout, Assured}
 use Rattle.panel.specs.declared.panel.Panel.{Panel}
 use Rattle.panel.specs.Views.{world_of, state_of, Carries}

@@ -3,9 +3,8 @@ use Rattle.std.specs.Prelude.{◌≡◌, ℕ, ◌≤◌, List, [], ◌∷◌, le
 use Rattle.trust.specs.declared.refusal.Refusal.{Refusal}
 use Rattle.trust.specs.Trust.{Trust}
 use Rattle.runs.specs.declared.call.Call.{Call}
-use Rattle.runs.specs.declared.call.Answer.{Answer}
 use Rattle.runs.specs.Values.{Values}
-use Rattle.runs.specs.Calls.{World, State, opening, fresh, hand, answer}
+use Rattle.runs.specs.Calls.{World, State, opening, fresh, hand, answer, Answer}
 use Rattle.runs.specs.Promise.{History, CameAbout}
 use Rattle.panel.specs.declared.panel.Panel.{Panel}
 

@@ -3,6 +3,8 @@ ghost use Rattle.std.specs.Prelude.{ℕ, ◌≤◌};
 use protocol::slot::Slot;
 
 pub(crate) mod counting;
+pub(crate) mod index;
+pub(crate) mod messages;
 pub(crate) mod parties;
 pub(crate) mod steps;
 pub(crate) mod tallying;

@@ -1,11 +1,17 @@
--- One turn of the loop that collects the nodes recorded with a value. Assumes nothing.
-use Rattle.std.proofs.Common.{◌≡◌, ℕ, ◌+◌, ◌-◌, ◌*◌, ◌^◌, ◌<◌, Bool, true, false, cond, List, get_or, None, Option, sym, ap, ◌∙◌, add-one, arith}
+-- An entry compared with a value, and one turn of the loop that collects the nodes recorded with a value. Assumes nothing.
+use Rattle.std.proofs.Common.{◌≡◌, ℕ, ◌+◌, ◌-◌, ◌*◌, ◌^◌, ◌<◌, Bool, true, false, cond, eqb, List, get_or, Some, None, Option, sym, refl, ap, ◌∙◌, add-one, arith}
+use Rattle.std.specs.Option.{option_eq}
 use lib.Bits.{bit_or}
 use Rattle.sets.specs.Sets.{node?, nodes_with, with_node}
 use Rattle.sets.proofs.Sets.{node_at, nodes_with_lt, one_more}
 use Rattle.sets.proofs.Members.{or_next}
 use Rattle.protocol.specs.Hearing.{is, entry}
 use Rattle.protocol.specs.declared.message.Place.{Place}
+
+-- `entry == Some(place)`
+pub is_entry : (o : Option Place) (v : Place) → option_eq (λ a b. eqb a.0 b.0) o (Some v) ≡ is v o
+is_entry None v = refl
+is_entry (Some u) v = refl
 
 -- the set m of the first k nodes, and the set n after the turn at k
 module _ (xs : List (Option Place)) (v : Place) (k m n : ℕ) (low : k < 16) (so_far : m ≡ nodes_with k (λ i. is v (entry xs i))) where

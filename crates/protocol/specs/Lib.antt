@@ -1,3 +1,4 @@
 pub mod Kinds
 pub mod Hearing
 pub mod Fresh
+pub mod Words

@@ -1,14 +1,16 @@
-ghost use Rattle.std.specs.Prelude.{◌≡◌};
+ghost use Rattle.std.specs.Prelude.{◌≡◌, Some};
 ghost use Rattle.protocol.specs.Fresh.{fresh_record};
-ghost use Rattle.protocol.specs.Hearing.{is, recorded_with, once, now_set, told, hear};
+ghost use Rattle.protocol.specs.Hearing.{recorded_with, once, now_set, told, hear};
+ghost use Rattle.protocol.specs.Words.{heard_word};
 
 use crate::message::{Kind, Message, Place};
 use sets::{Node, NodeSet};
+use std::fmt;
 use trust::rule::TrustRule;
 
 // What a node knows of one broadcast: the values that it echoed, readied and delivered,
 // and the first ECHO and the first READY from each node, node k's at k - 1.
-#[derive(Clone, Copy)]
+#[derive(Clone, Copy, Debug, PartialEq, Eq)]
 pub struct Record {
     pub echoed: Option<Place>,
     pub readied: Option<Place>,
@@ -18,7 +20,7 @@ pub struct Record {
 }
 
 // What a node did with a message.
-#[derive(Clone, Copy)]
+#[derive(Clone, Copy, Debug, PartialEq, Eq)]
 pub enum Heard {
     Ignored,
     Recorded,
@@ -28,12 +30,18 @@ pub enum Heard {
     ReadiedDelivered,
 }
 
-fn is_place(entry: Option<Place>, place: Place) -> bool
-    ensures { result ≡ is place entry }
-{
-    match entry {
-        Some(other) => other.0 == place.0,
-        None => false,
+impl fmt::Display for Heard {
+    ghost output = { λ heard. Some (heard_word heard) };
+
+    fn fmt<W: fmt::Write>(&self, f: &mut fmt::Formatter<W>) -> fmt::Result {
+        f.write_str(match self {
+            Heard::Ignored => "ignored",
+            Heard::Recorded => "recorded",
+            Heard::Echoed => "echoed",
+            Heard::Readied => "readied",
+            Heard::Delivered => "delivered",
+            Heard::ReadiedDelivered => "readied delivered",
+        })
     }
 }
 
@@ -42,9 +50,9 @@ fn recorded_with(entries: &[Option<Place>; 16], place: Place) -> NodeSet
     ensures { result.0 ≡ recorded_with entries.now place }
 {
     let mut nodes = NodeSet(0);
-    for k in 0..16u32 {
-        if is_place(entries[k as usize], place) {
-            nodes = nodes.with(Node(k + 1));
+    for (k, entry) in entries.iter().enumerate() {
+        if *entry == Some(place) {
+            nodes = nodes.with(Node(k as u32 + 1));
         }
     }
     nodes
@@ -100,14 +108,13 @@ impl Record {
         ensures after { self.new ≡ (hear (R.meaning rule.now) me.0 sender.0 self.old message.kind message.from.0 message.place).0 }
         ensures said { result ≡ (hear (R.meaning rule.now) me.0 sender.0 self.old message.kind message.from.0 message.place).1 }
     {
-        let from = message.from.0;
-        let place = message.place;
-        if from == 0 || from > rule.size() {
+        let Message { kind, from, place } = message;
+        if !from.is_among(rule.size()) {
             return Heard::Ignored;
         }
-        let at = (from - 1) as usize;
-        match (message.kind, self.echoed, self.echoes[at], self.readies[at]) {
-            (Kind::Send, None, _, _) if from == sender.0 => {
+        let at = (from.0 - 1) as usize;
+        match (kind, self.echoed, self.echoes[at], self.readies[at]) {
+            (Kind::Send, None, _, _) if from == sender => {
                 self.echoed = Some(place);
                 Heard::Echoed
             }

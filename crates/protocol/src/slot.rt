@@ -5,7 +5,7 @@ use crate::message::Place;
 use crate::record::Record;
 
 // One broadcast: what its sender proposed, and the record of each node, node k at k - 1.
-#[derive(Clone, Copy)]
+#[derive(Clone, Copy, Debug, PartialEq, Eq)]
 pub struct Slot {
     pub proposal: Option<Place>,
     pub records: [Record; 16],

@@ -1,5 +1,5 @@
 -- What each call does to the board: a refused call nothing, any other its event in its slot. Assumes nothing.
-use Rattle.std.proofs.Common.{◌≡◌, ℕ, ◌-◌, ◌<◌, true, false, cond, List, length, set, Some, None, Option, sym, refl, ap, ◌∙◌, subst, ⊎_elim, length-set, get_or-set_other, get_or-set_same}
+use Rattle.std.proofs.Common.{is_ok, ◌≡◌, ℕ, ◌-◌, ◌<◌, true, false, cond, List, length, set, Some, None, Option, sym, refl, ap, ◌∙◌, subst, ⊎_elim, length-set, get_or-set_other, get_or-set_same, Ok, Err}
 use lib.Seq.{set-get_or}
 use Rattle.std.proofs.lemmas.Bool.{and_from, cases_eq, both_ways}
 use Rattle.trust.specs.declared.refusal.Refusal.{Refusal}
@@ -12,11 +12,9 @@ use Rattle.broadcast.specs.Slots.{Setting, correct?, faulty?, no_record, record_
 use Rattle.broadcast.specs.Events.{Event, propose, forge, hand, hears, proposes, hears_waiting, step}
 use Rattle.runs.specs.declared.call.Call.{Call}
 use Rattle.runs.specs.declared.call.Call.TheVariants.{Propose, Forge, Hand}
-use Rattle.runs.specs.declared.call.Answer.{Answer}
-use Rattle.runs.specs.declared.call.Answer.TheVariants.{Proposed, Already, Stepped, Refused}
+use Rattle.runs.specs.declared.call.Outcome.TheVariants.{Proposed, Already, Stepped}
 use Rattle.runs.specs.Values.{Values}
-use Rattle.runs.specs.Calls.{World, State, setting, no_slot, slot_at, entered, kind}
-use Rattle.runs.specs.Promise.{accepted}
+use Rattle.runs.specs.Calls.{World, State, setting, no_slot, slot_at, entered, kind, Answer}
 use Rattle.runs.proofs.Moves.{known, placed, InSlots, Moves, refuses, repeats, offers, ignores, forges, hands}
 
 -- what lets an event happen
@@ -70,27 +68,27 @@ module _ {V : Type 0} (values : Values V) (w : World) (x : State V) where
   Occurs t c = Happens (setting w t) (slot_at x.board t) (event_of values x c)
 
   pub data BoardAfter (c : Call V) : Answer → List Slot → Type 0 where
-    board_same : (n : Refusal) → BoardAfter c (Refused n) x.board
-    board_event : (a : Answer) → accepted a ≡ true → InSlots w (slot_of c)
+    board_same : (n : Refusal) → BoardAfter c (Err n) x.board
+    board_event : (a : Answer) → is_ok a ≡ true → InSlots w (slot_of c)
         → Occurs (slot_of c) c → BoardAfter c a (set x.board (slot_of c) (event_slot (slot_of c) c))
 
   -- where the event leaves the slot, or makes it y
-  event_none : (c : Call V) (a : Answer) → accepted a ≡ true → InSlots w (slot_of c) → Occurs (slot_of c) c
+  event_none : (c : Call V) (a : Answer) → is_ok a ≡ true → InSlots w (slot_of c) → Occurs (slot_of c) c
       → event_slot (slot_of c) c ≡ slot_at x.board (slot_of c) → BoardAfter c a x.board
   event_none c a ok s h e = subst (BoardAfter c a) (ap (set x.board (slot_of c)) e ∙ set-get_or x.board (slot_of c) no_slot) (board_event a ok s h)
 
-  event_some : (c : Call V) (a : Answer) (y : Slot) → accepted a ≡ true → InSlots w (slot_of c) → Occurs (slot_of c) c
+  event_some : (c : Call V) (a : Answer) (y : Slot) → is_ok a ≡ true → InSlots w (slot_of c) → Occurs (slot_of c) c
       → event_slot (slot_of c) c ≡ y → BoardAfter c a (set x.board (slot_of c) y)
   event_some c a y ok s h e = subst (λ z. BoardAfter c a (set x.board (slot_of c) z)) e (board_event a ok s h)
 
   pub board_after : {c : Call V} {a : Answer} {y : State V} → Moves values w x c a y → BoardAfter c a y.board
   board_after (refuses c n) = board_same n
-  board_after (repeats s v p in_slots ok fit e _) = event_none (Propose s v) Already refl in_slots ok (proposes_same (setting w s) _ p _ e)
+  board_after (repeats s v p in_slots ok fit e _) = event_none (Propose s v) (Ok Already) refl in_slots ok (proposes_same (setting w s) _ p _ e)
   board_after (offers s v in_slots ok fit e) =
-      subst (BoardAfter (Propose s v) Proposed) (sym (entered_board x v (known values x v) _))
-      (event_some (Propose s v) Proposed _ refl in_slots ok (proposes_new (setting w s) (slot_at x.board s) (placed values x v) ok e))
+      subst (BoardAfter (Propose s v) (Ok Proposed)) (sym (entered_board x v (known values x v) _))
+      (event_some (Propose s v) (Ok Proposed) _ refl in_slots ok (proposes_new (setting w s) (slot_at x.board s) (placed values x v) ok e))
   board_after (ignores n s i k v (_, in_slots) (from, to) fit e) =
-      event_none (Forge n s i k v) (Stepped Ignored) refl in_slots (from, to)
+      event_none (Forge n s i k v) (Ok (Stepped Ignored)) refl in_slots (from, to)
       (forge_is (setting w s) (slot_at x.board s) (kind n) i k (placed values x v) from to
       ∙ hears_ignored (setting w s) (kind n) i k (placed values x v) (slot_at x.board s) e)
   board_after (forges n s i k v (_, in_slots) (from, to) fit e) =
@@ -101,11 +99,11 @@ module _ {V : Type 0} (values : Values V) (w : World) (x : State V) where
 
   -- one slot: nothing happens in it, or the call's event does
   pub data SlotAfter (c : Call V) (t : ℕ) : Answer → Slot → Type 0 where
-    slot_same : (a : Answer) → (accepted a ≡ true → slot_of c ≡ t → ⊥) → SlotAfter c t a (slot_at x.board t)
-    slot_event : (a : Answer) → accepted a ≡ true → slot_of c ≡ t → InSlots w t → Occurs t c → SlotAfter c t a (event_slot t c)
+    slot_same : (a : Answer) → (is_ok a ≡ true → slot_of c ≡ t → ⊥) → SlotAfter c t a (slot_at x.board t)
+    slot_event : (a : Answer) → is_ok a ≡ true → slot_of c ≡ t → InSlots w t → Occurs t c → SlotAfter c t a (event_slot t c)
 
   pub slot_after : ((s : ℕ) → InSlots w s → s < length x.board) → {c : Call V} {a : Answer} {b : List Slot} → BoardAfter c a b → (t : ℕ) → SlotAfter c t a (slot_at b t)
-  slot_after long (board_same n) t = slot_same (Refused n) (λ e _. both_ways false refl e)
+  slot_after long (board_same n) t = slot_same (Err n) (λ e _. both_ways false refl e)
   slot_after long {c} (board_event a ok in_slots h) t =
       ⊎_elim
       (λ e. subst (λ n. SlotAfter c n a (slot_at (set x.board (slot_of c) (event_slot (slot_of c) c)) n)) e

@@ -1,5 +1,5 @@
 -- What holds of every state that calls brought about. Assumes nothing.
-use Rattle.std.proofs.Common.{◌≡◌, ℕ, ◌+◌, ◌^◌, ◌<◌, ◌≤◌, Bool, true, false, cond, eqb, List, [], ◌∷◌, length, set, replicate, None, sym, refl, ap, ◌∙◌, subst, ⊎_elim, arith}
+use Rattle.std.proofs.Common.{is_ok, ◌≡◌, ℕ, ◌+◌, ◌^◌, ◌<◌, ◌≤◌, Bool, true, false, cond, eqb, List, [], ◌∷◌, length, set, replicate, None, sym, refl, ap, ◌∙◌, subst, ⊎_elim, arith}
 use Rattle.std.proofs.lemmas.List.{get_or-replicate}
 use Rattle.std.proofs.lemmas.Bool.{ltb-true, not-false, eq-eqb, ne_eqb, cases_Bool, both_ways}
 use Rattle.trust.specs.Trust.{sound}
@@ -15,10 +15,9 @@ use Rattle.broadcast.proofs.Counting.{heard_step, heard_fresh}
 use Rattle.broadcast.proofs.Serving.{sound_assumed}
 use Rattle.runs.specs.declared.call.Call.{Call}
 use Rattle.runs.specs.declared.call.Call.TheVariants.{Propose, Forge, Hand}
-use Rattle.runs.specs.declared.call.Answer.{Answer}
 use Rattle.runs.specs.Values.{Values}
-use Rattle.runs.specs.Calls.{World, State, setting, no_slot, slot_at, slot?, open_refusals, opening, fresh, kind, known_in, place_of, entered, answer}
-use Rattle.runs.specs.Promise.{History, CameAbout, opened, called, accepted, hand_in, handed}
+use Rattle.runs.specs.Calls.{World, State, setting, no_slot, slot_at, slot?, open_refusals, opening, fresh, kind, known_in, place_of, entered, answer, Answer}
+use Rattle.runs.specs.Promise.{History, CameAbout, opened, called, hand_in, handed}
 use Rattle.runs.proofs.Refusing.{none_hold, some_not_none}
 use Rattle.runs.proofs.Moves.{Moves, refuses, repeats, offers, ignores, forges, hands, answered}
 use Rattle.runs.proofs.Boards.{Happens, entered_board, slot_of, event_of, board_after, SlotAfter, slot_same, slot_event, slot_after, board_length}
@@ -90,25 +89,25 @@ module _ {V : Type 0} (values : Values V) (w : World) (o : Opens w) where
 
   -- a call's part in `handed`
   abbrev share : ℕ → Call V → Answer → ℕ
-  share s c a = cond (hand_in s c) (cond (accepted a) 1 0) 0
+  share s c a = cond (hand_in s c) (cond (is_ok a) 1 0) 0
 
-  share_none : (s : ℕ) (c : Call V) (a : Answer) → (accepted a ≡ true → slot_of c ≡ s → ⊥) → share s c a ≡ 0
+  share_none : (s : ℕ) (c : Call V) (a : Answer) → (is_ok a ≡ true → slot_of c ≡ s → ⊥) → share s c a ≡ 0
   share_none s (Propose t v) a ne = refl
   share_none s (Forge n t i k v) a ne = refl
   share_none s (Hand n t i k) a ne = ⊎_elim
-      (λ ok. ap (λ b. cond b (cond (accepted a) 1 0) 0) (ne_eqb t s (ne ok)))
-      (λ out. ap (λ b. cond (eqb t s) (cond b 1 0) 0) out ∙ zeroes (eqb t s)) (cases_Bool (accepted a))
+      (λ ok. ap (λ b. cond b (cond (is_ok a) 1 0) 0) (ne_eqb t s (ne ok)))
+      (λ out. ap (λ b. cond (eqb t s) (cond b 1 0) 0) out ∙ zeroes (eqb t s)) (cases_Bool (is_ok a))
     where
       zeroes : (b : Bool) → ◌≡◌ {A = ℕ} (cond b 0 0) 0
       zeroes true = refl
       zeroes false = refl
 
-  share_one : (x : State V) (s : ℕ) (c : Call V) (a : Answer) (y : Slot) → accepted a ≡ true → slot_of c ≡ s → Happens (setting w s) y (event_of values x c)
+  share_one : (x : State V) (s : ℕ) (c : Call V) (a : Answer) (y : Slot) → is_ok a ≡ true → slot_of c ≡ s → Happens (setting w s) y (event_of values x c)
       → share s c a ≡ accepted_in (setting w s) y (event_of values x c)
   share_one x s (Propose t v) a y ok is h = refl
   share_one x s (Forge n t i k v) a y ok is h = refl
   share_one x s (Hand n t i k) a y ok is h =
-      ap (λ b. cond b (cond (accepted a) 1 0) 0) (eq-eqb t s is) ∙ ap (λ b. cond b 1 0) ok ∙ sym (ap (λ p. one (any p)) h.1)
+      ap (λ b. cond b (cond (is_ok a) 1 0) 0) (eq-eqb t s is) ∙ ap (λ b. cond b 1 0) ok ∙ sym (ap (λ p. one (any p)) h.1)
 
   -- after one call
   module _ (h : History V) (x : State V) (r : Reached values w h x) where

@@ -11,9 +11,8 @@ use Rattle.broadcast.proofs.Waiting.{correct_bounds, waiting_parts}
 use Rattle.broadcast.proofs.Hearing.{Grew, stays, grew, heard}
 use Rattle.broadcast.proofs.Invariant.{Inv, record_each, said_kept}
 use Rattle.runs.specs.declared.call.Call.{Call}
-use Rattle.runs.specs.declared.call.Answer.{Answer}
 use Rattle.runs.specs.Values.{Values}
-use Rattle.runs.specs.Calls.{World, State, setting, correct, slot_at, slot?, known_from, known_in, place_of, entered}
+use Rattle.runs.specs.Calls.{World, State, setting, correct, slot_at, slot?, known_from, known_in, place_of, entered, Answer}
 use Rattle.runs.specs.Promise.{History}
 use Rattle.runs.proofs.Refusing.{some_not_none}
 use Rattle.runs.proofs.Moves.{Moves, known, placed}

@@ -1,5 +1,5 @@
 -- A slot's proposal is the value of the one call that proposed it, and used places have different values. Assumes nothing.
-use Rattle.std.proofs.Common.{◌≡◌, ℕ, cond, eqb, List, [], ◌∷◌, ◌++◌, Some, None, Option, sym, refl, ap, ◌∙◌, ap₂}
+use Rattle.std.proofs.Common.{◌≡◌, ℕ, cond, eqb, List, [], ◌∷◌, ◌++◌, Some, None, Option, sym, refl, ap, ◌∙◌, ap₂, Err}
 use Rattle.std.proofs.lemmas.Bool.{eq-eqb, ne_eqb}
 use Rattle.trust.specs.declared.refusal.Refusal.{Refusal}
 use Rattle.protocol.specs.Fresh.{fresh_slot}
@@ -7,10 +7,8 @@ use Rattle.protocol.specs.declared.message.Place.{Place}
 use Rattle.protocol.specs.declared.slot.Slot.{Slot}
 use Rattle.runs.specs.declared.call.Call.{Call}
 use Rattle.runs.specs.declared.call.Call.TheVariants.{Propose, Forge, Hand}
-use Rattle.runs.specs.declared.call.Answer.{Answer}
-use Rattle.runs.specs.declared.call.Answer.TheVariants.{Refused}
 use Rattle.runs.specs.Values.{Values}
-use Rattle.runs.specs.Calls.{World, State, no_slot, slot_at, entered, with_proposal, answer}
+use Rattle.runs.specs.Calls.{World, State, no_slot, slot_at, entered, with_proposal, answer, Answer}
 use Rattle.runs.specs.Readings.{meant_at}
 use Rattle.runs.specs.Promise.{History, CameAbout, opened, called, offered}
 use Rattle.runs.specs.Laws.{proposed_by, proposed_in, as_list, ProposalLaw, PlaceLaw}
@@ -21,7 +19,7 @@ use Rattle.runs.proofs.Standing.{Each, replicate_each}
 use Rattle.runs.proofs.Invariants.{Opens, opens, Stored, Reached, reached, within}
 use Rattle.runs.proofs.LawsSteps.{on_slot}
 
-refused_proposes : {V : Type 0} (values : Values V) (s : ℕ) (c : Call V) (n : Refusal) → proposed_by values s c (Refused n) ≡ []
+refused_proposes : {V : Type 0} (values : Values V) (s : ℕ) (c : Call V) (n : Refusal) → proposed_by values s c (Err n) ≡ []
 refused_proposes values s (Propose t v) n = refl
 refused_proposes values s (Forge m t i k v) n = refl
 refused_proposes values s (Hand m t i k) n = refl

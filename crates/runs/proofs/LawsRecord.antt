@@ -1,5 +1,5 @@
 -- A correct node's record is what the messages brought to it say. Assumes nothing.
-use Rattle.std.proofs.Common.{◌≡◌, ℕ, ◌-◌, true, false, cond, ◌&&◌, eqb, List, [], ◌∷◌, ◌++◌, set, Some, Option, sym, refl, subst, ⊎_elim}
+use Rattle.std.proofs.Common.{is_ok, ◌≡◌, ℕ, ◌-◌, true, false, cond, ◌&&◌, eqb, List, [], ◌∷◌, ◌++◌, set, Some, Option, sym, refl, subst, ⊎_elim}
 use Rattle.std.proofs.lemmas.Bool.{and_parts, and_from, and_left, and_right, eq-eqb, ne_eqb, cases_eq}
 use Rattle.sets.specs.Sets.{node?, has}
 use Rattle.protocol.specs.Fresh.{fresh_record, fresh_slot}
@@ -12,10 +12,9 @@ use Rattle.broadcast.specs.Events.{hears}
 use Rattle.broadcast.proofs.Invariant.{fresh_taken}
 use Rattle.broadcast.proofs.Waiting.{correct_bounds, waiting_parts, waiting_heeded}
 use Rattle.runs.specs.declared.call.Call.{Call}
-use Rattle.runs.specs.declared.call.Answer.{Answer}
 use Rattle.runs.specs.Values.{Values}
-use Rattle.runs.specs.Calls.{World, State, sender, setting, correct, no_slot, slot_at, slot?, kind, known_in, heeds_in}
-use Rattle.runs.specs.Promise.{History, CameAbout, opened, called, accepted}
+use Rattle.runs.specs.Calls.{World, State, sender, setting, correct, no_slot, slot_at, slot?, kind, known_in, heeds_in, Answer}
+use Rattle.runs.specs.Promise.{History, CameAbout, opened, called}
 use Rattle.runs.specs.Laws.{Arrival, brings, arrivals_at, first, RecordedBy, RecordLaw}
 use Rattle.runs.proofs.Moves.{Moves, refuses, repeats, offers, ignores, forges, hands, answered, known, placed}
 use Rattle.runs.proofs.Boards.{entered_board}
@@ -89,7 +88,7 @@ module _ {V : Type 0} (values : Values V) (w : World) (o : Opens w) (h : History
         (λ ne. arrivals_at_other t l s k (arrival n j (value s)) (record_at (old_slot s) k) (and_left (eqb t s) (eqb l k) (ne_eqb t s ne)) (old s k k_correct))
 
   record_move : {c : Call V} {a : Answer} {y : State V} → Moves values w x c a y → Later values w x z → Later values w y z
-      → (s k : ℕ) → correct w k ≡ true → By w s k (cond (accepted a) (brings values w z s k c) [] ++ arrivals_at values w z s k h) (record_at (slot_at y.board s) k)
+      → (s k : ℕ) → correct w k ≡ true → By w s k (cond (is_ok a) (brings values w z s k c) [] ++ arrivals_at values w z s k h) (record_at (slot_at y.board s) k)
   record_move (refuses c n) f g s k k_correct = old s k k_correct
   record_move (repeats t v p _ _ _ _ _) f g s k k_correct = old s k k_correct
   record_move (offers t v t_in _ _ _) f g s k k_correct =

@@ -1,5 +1,5 @@
 -- A message waits exactly when the history says so. Assumes nothing.
-use Rattle.std.proofs.Common.{◌≡◌, ℕ, ◌-◌, ◌<◌, ◌≤◌, Bool, true, false, cond, not, ◌&&◌, ◌||◌, eqb, length, Some, None, Option, sym, refl, ap, ◌∙◌}
+use Rattle.std.proofs.Common.{◌≡◌, ℕ, ◌-◌, ◌<◌, ◌≤◌, Bool, true, false, cond, not, ◌&&◌, ◌||◌, eqb, length, Some, None, Option, sym, refl, ap, ◌∙◌, Err}
 use Rattle.std.proofs.lemmas.Bool.{and_left, and_right, eq-eqb, ne_eqb}
 use Rattle.trust.specs.declared.refusal.Refusal.{Refusal}
 use Rattle.protocol.specs.Fresh.{fresh_record, fresh_slot}
@@ -14,10 +14,8 @@ use Rattle.broadcast.proofs.Invariant.{fresh_taken}
 use Rattle.broadcast.proofs.Waiting.{correct_bounds, faulty_not_correct, waiting_parts, waiting_heeded}
 use Rattle.runs.specs.declared.call.Call.{Call}
 use Rattle.runs.specs.declared.call.Call.TheVariants.{Propose, Forge, Hand}
-use Rattle.runs.specs.declared.call.Answer.{Answer}
-use Rattle.runs.specs.declared.call.Answer.TheVariants.{Refused}
 use Rattle.runs.specs.Values.{Values}
-use Rattle.runs.specs.Calls.{World, State, sender, setting, correct, no_slot, slot_at, slot?, kind, heeds_in, answer}
+use Rattle.runs.specs.Calls.{World, State, sender, setting, correct, no_slot, slot_at, slot?, kind, heeds_in, answer, Answer}
 use Rattle.runs.specs.Promise.{History, CameAbout, opened, called}
 use Rattle.runs.specs.Laws.{same_kind, some, step_says, sends, hands_over, WaitingLaw}
 use Rattle.runs.proofs.Moves.{Moves, refuses, repeats, offers, ignores, forges, hands, answered, known, placed, hearing}
@@ -37,12 +35,12 @@ says_at w s z m i = any (said (setting w s) z m i)
 abbrev has_at : World → ℕ → Slot → ℕ → Kind → ℕ → Bool
 has_at w s z k m i = any (taken (sender w s) (record_at z k) m i)
 
-refused_sends : {V : Type 0} (w : World) (s : ℕ) (m : Kind) (i : ℕ) (c : Call V) (n : Refusal) → sends w s m i c (Refused n) ≡ false
+refused_sends : {V : Type 0} (w : World) (s : ℕ) (m : Kind) (i : ℕ) (c : Call V) (n : Refusal) → sends w s m i c (Err n) ≡ false
 refused_sends w s m i (Propose t v) n = and_right (eqb t s && eqb i (sender w t)) false refl
 refused_sends w s m i (Forge a t j k v) n = and_right (eqb t s && eqb k i) false refl
 refused_sends w s m i (Hand a t j k) n = and_right (eqb t s && eqb k i) false refl
 
-refused_hands : {V : Type 0} (s : ℕ) (m : Kind) (i k : ℕ) (c : Call V) (n : Refusal) → hands_over s m i k c (Refused n) ≡ false
+refused_hands : {V : Type 0} (s : ℕ) (m : Kind) (i k : ℕ) (c : Call V) (n : Refusal) → hands_over s m i k c (Err n) ≡ false
 refused_hands s m i k (Propose t v) n = refl
 refused_hands s m i k (Forge a t j l v) n = refl
 refused_hands s m i k (Hand a t j l) n = refl

@@ -1,5 +1,5 @@
 -- What each call does, one case for each way. Assumes nothing.
-use Rattle.std.proofs.Common.{◌≡◌, ℕ, Bool, true, false, cond, not, ◌&&◌, List, is_some as option_is_some, Some, None, Option, sym, refl}
+use Rattle.std.proofs.Common.{◌≡◌, ℕ, Bool, true, false, cond, not, ◌&&◌, List, is_some as option_is_some, Some, None, Option, sym, refl, Ok, Err}
 use Rattle.std.proofs.lemmas.Bool.{and_parts, or_parts, not-false, both_ways}
 use Rattle.sets.specs.Sets.{node?, has}
 use Rattle.trust.specs.declared.refusal.Refusal.{Refusal}
@@ -12,10 +12,9 @@ use Rattle.protocol.specs.declared.slot.Slot.{Slot}
 use Rattle.broadcast.proofs.Places.{is_some}
 use Rattle.runs.specs.declared.call.Call.{Call}
 use Rattle.runs.specs.declared.call.Call.TheVariants.{Propose, Forge, Hand}
-use Rattle.runs.specs.declared.call.Answer.{Answer}
-use Rattle.runs.specs.declared.call.Answer.TheVariants.{Proposed, Already, Stepped, Refused}
+use Rattle.runs.specs.declared.call.Outcome.TheVariants.{Proposed, Already, Stepped}
 use Rattle.runs.specs.Values.{Values}
-use Rattle.runs.specs.Calls.{World, State, sender, correct, slot_at, known_in, place_of, entered, slot?, kind, message?, other_proposal, heeds_in, hears_in, waiting_in, with_proposal, propose_refusals, forge_refusals, hand_refusals, stepped, brought, answer}
+use Rattle.runs.specs.Calls.{World, State, sender, correct, slot_at, known_in, place_of, entered, slot?, kind, message?, other_proposal, heeds_in, hears_in, waiting_in, with_proposal, propose_refusals, forge_refusals, hand_refusals, stepped, brought, answer, Answer}
 use Rattle.runs.proofs.Refusing.{refuse_ways}
 
 -- a slot below the slot count, and with it a kind's number in range
@@ -62,17 +61,17 @@ message_parts w n s i k e =
 
 module _ {V : Type 0} (values : Values V) (w : World) (x : State V) where
   pub data Moves : Call V → Answer → State V → Type 0 where
-    refuses : (c : Call V) (n : Refusal) → Moves c (Refused n) x
+    refuses : (c : Call V) (n : Refusal) → Moves c (Err n) x
     -- the proposal has the value already
     repeats : (s : ℕ) (v : V) (p : Place) → InSlots w s → correct w (sender w s) ≡ true → Fit values v
-        → (slot_at x.board s).proposal ≡ Some p → known values x v ≡ Some p → Moves (Propose s v) Already x
+        → (slot_at x.board s).proposal ≡ Some p → known values x v ≡ Some p → Moves (Propose s v) (Ok Already) x
     offers : (s : ℕ) (v : V) → InSlots w s → correct w (sender w s) ≡ true → Fit values v → (slot_at x.board s).proposal ≡ None
-        → Moves (Propose s v) Proposed (entered x v (known values x v) (with_proposal x.board s (placed values x v)))
-    ignores : (n s i k : ℕ) (v : V) → Named w n s → FaultyToCorrect w i k → Fit values v → heeds_in w x.board s (kind n) i k ≡ false → Moves (Forge n s i k v) (Stepped Ignored) x
+        → Moves (Propose s v) (Ok Proposed) (entered x v (known values x v) (with_proposal x.board s (placed values x v)))
+    ignores : (n s i k : ℕ) (v : V) → Named w n s → FaultyToCorrect w i k → Fit values v → heeds_in w x.board s (kind n) i k ≡ false → Moves (Forge n s i k v) (Ok (Stepped Ignored)) x
     forges : (n s i k : ℕ) (v : V) → Named w n s → FaultyToCorrect w i k → Fit values v → heeds_in w x.board s (kind n) i k ≡ true
-        → Moves (Forge n s i k v) (Stepped (hearing w x n s i k (placed values x v)).0) (entered x v (known values x v) (hearing w x n s i k (placed values x v)).1)
+        → Moves (Forge n s i k v) (Ok (Stepped (hearing w x n s i k (placed values x v)).0)) (entered x v (known values x v) (hearing w x n s i k (placed values x v)).1)
     hands : (n s i k : ℕ) (p : Place) → Named w n s → waiting_in w x.board s (kind n) i k ≡ Some p
-        → Moves (Hand n s i k) (Stepped (hearing w x n s i k p).0) (on_board x (hearing w x n s i k p).1)
+        → Moves (Hand n s i k) (Ok (Stepped (hearing w x n s i k p).0)) (on_board x (hearing w x n s i k p).1)
 
   -- as a pair
   abbrev MovesTo : Call V → Answer × State V → Type 0
@@ -84,7 +83,7 @@ module _ {V : Type 0} (values : Values V) (w : World) (x : State V) where
       (λ (_, (out, (party, (unfit, (other, _))))). go (slot_at x.board s).proposal refl (not-false _ out) (not-false _ party) (not-false _ unfit) other)
     where
       go : (o : Option Place) → (slot_at x.board s).proposal ≡ o → InSlots w s → correct w (sender w s) ≡ true → Fit values v → other_proposal o (known values x v) ≡ false
-          → MovesTo (Propose s v) (cond (absent o) (Proposed, entered x v (known values x v) (with_proposal x.board s (placed values x v))) (Already, x))
+          → MovesTo (Propose s v) (cond (absent o) (Ok Proposed, entered x v (known values x v) (with_proposal x.board s (placed values x v))) (Ok Already, x))
       go None e a b c other = offers s v a b c e
       go (Some p) e a b c other = repeats s v p a b c e (is_some p (known values x v) (not-false _ other))
   answered places (Forge n s i k v) =
@@ -95,7 +94,7 @@ module _ {V : Type 0} (values : Values V) (w : World) (x : State V) where
       go (heeds_in w x.board s (kind n) i k) refl named (faulty_from w i from i_out, not-false _ k_in) (not-false _ unfit))
     where
       go : (b : Bool) → heeds_in w x.board s (kind n) i k ≡ b → Named w n s → FaultyToCorrect w i k → Fit values v
-          → MovesTo (Forge n s i k v) (cond b (stepped x v (known values x v) (hears_in w x.board s (kind n) i k (placed values x v))) (Stepped Ignored, x))
+          → MovesTo (Forge n s i k v) (cond b (stepped x v (known values x v) (hears_in w x.board s (kind n) i k (placed values x v))) (Ok (Stepped Ignored), x))
       go true e a l f = forges n s i k v a l f e
       go false e a l f = ignores n s i k v a l f e
   answered places (Hand n s i k) =

@@ -1,11 +1,10 @@
 -- Either a call is refused, or none of its refusals' conditions holds. Assumes nothing.
-use Rattle.std.proofs.Common.{◌≡◌, Bool, true, false, cond, List, [], ◌∷◌, Some, None, Option, refl}
+use Rattle.std.proofs.Common.{◌≡◌, Bool, true, false, cond, List, [], ◌∷◌, Some, None, Option, refl, Err}
+use Rattle.std.specs.Option.{option_map_or}
 use Rattle.std.proofs.lemmas.Bool.{false≢true}
 use Rattle.trust.specs.declared.refusal.Refusal.{Refusal}
 use Rattle.trust.specs.Refusals.{first_of}
-use Rattle.runs.specs.declared.call.Answer.{Answer}
-use Rattle.runs.specs.declared.call.Answer.TheVariants.{Refused}
-use Rattle.runs.specs.Calls.{refuse_or}
+use Rattle.runs.specs.Calls.{Answer, refused}
 
 abbrev pub NoneHold : List (Bool × Refusal) → Type 0
 NoneHold [] = Unit {0}
@@ -23,9 +22,9 @@ none_hold (c ∷ cs) e = go (none_hold cs) c.0 refl e
     go rest false h e' = (h, rest e')
 
 pub refuse_ways : {A : Type 0} (P : Answer × A → Type 0) (cs : List (Bool × Refusal)) (x : A) (y : Answer × A)
-    → ((n : Refusal) → P (Refused n, x)) → (NoneHold cs → P y) → P (refuse_or (first_of cs) x y)
-refuse_ways {A} P cs x y refused made = go (first_of cs) refl
+    → ((n : Refusal) → P (Err n, x)) → (NoneHold cs → P y) → P (option_map_or (refused x) (first_of cs) y)
+refuse_ways {A} P cs x y is_refused made = go (first_of cs) refl
   where
-    go : (o : Option Refusal) → first_of cs ≡ o → P (refuse_or o x y)
+    go : (o : Option Refusal) → first_of cs ≡ o → P (option_map_or (refused x) o y)
     go None e = made (none_hold cs e)
-    go (Some n) e = refused n
+    go (Some n) e = is_refused n

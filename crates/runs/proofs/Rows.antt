@@ -6,9 +6,8 @@ use Rattle.protocol.specs.declared.message.Place.{Place}
 use Rattle.protocol.specs.declared.slot.Slot.{Slot}
 use Rattle.broadcast.proofs.Places.{same_place}
 use Rattle.runs.specs.declared.call.Call.{Call}
-use Rattle.runs.specs.declared.call.Answer.{Answer}
 use Rattle.runs.specs.Values.{Values}
-use Rattle.runs.specs.Calls.{World, State, at, known_from, known_in, place_of, entered}
+use Rattle.runs.specs.Calls.{World, State, at, known_from, known_in, place_of, entered, Answer}
 use Rattle.runs.specs.Readings.{meant_by, meant_at}
 use Rattle.runs.proofs.Refusing.{some_not_none}
 use Rattle.runs.proofs.Moves.{Moves, refuses, repeats, offers, ignores, forges, hands}

@@ -1,6 +1,6 @@
 -- What the opening and each call of a panel answer and leave. A value is known by its meaning, a message's value by its place on the roll.
-use Rattle.std.specs.Prelude.{ℕ, zero, suc, ◌+◌, ◌%◌, Bool, false, cond, not, ◌&&◌, ◌||◌, List, [], ◌∷◌, ◌++◌, replicate, is_some, Some, None, Option, ◌==◌, nat_le, nat_lt, slice_index_or, slice_set}
-use Rattle.std.specs.Option.{unwrap_or}
+use Rattle.std.specs.Prelude.{ℕ, zero, suc, ◌+◌, ◌%◌, Bool, false, cond, not, ◌&&◌, ◌||◌, List, [], ◌∷◌, ◌++◌, replicate, is_some, Some, None, Option, Result, ◌==◌, nat_le, nat_lt, slice_index_or, slice_set, Ok, Err}
+use Rattle.std.specs.Option.{unwrap_or, option_map_or}
 use Rattle.sets.specs.Sets.{node?, set?, has}
 use Rattle.trust.specs.declared.refusal.Refusal.{Refusal}
 use Rattle.trust.specs.declared.refusal.Refusal.TheVariants.{SlotCount, RollSize, FaultyMask, Unsound, NoSuch, WrongParty, Unfit, OtherProposal, NotWaiting, RollFull}
@@ -19,8 +19,8 @@ use Rattle.broadcast.specs.Slots.{Setting, record_at, waiting}
 use Rattle.broadcast.specs.Events.{hears}
 use Rattle.runs.specs.declared.call.Call.{Call}
 use Rattle.runs.specs.declared.call.Call.TheVariants.{Propose, Forge, Hand}
-use Rattle.runs.specs.declared.call.Answer.{Answer}
-use Rattle.runs.specs.declared.call.Answer.TheVariants.{Proposed, Already, Stepped, Refused}
+use Rattle.runs.specs.declared.call.Outcome.{Outcome}
+use Rattle.runs.specs.declared.call.Outcome.TheVariants.{Proposed, Already, Stepped}
 use Rattle.runs.specs.Values.{Values}
 
 -- what a panel was opened with
@@ -109,10 +109,13 @@ kind n = unwrap_or (kind_of n) Ready
 abbrev pub message? : World → ℕ → ℕ → ℕ → ℕ → Bool
 message? w n s i k = is_some (kind_of n) && slot? w s && node? w.trust.size i && node? w.trust.size k
 
+-- what a call is answered: what it came to, or why it was refused
+abbrev pub Answer : Type 0
+Answer = Result Outcome Refusal
+
 -- a refused call changes nothing
-abbrev pub refuse_or : {A : Type 0} → Option Refusal → A → Answer × A → Answer × A
-refuse_or None x y = y
-refuse_or (Some n) x y = (Refused n, x)
+abbrev pub refused : {A : Type 0} → A → Refusal → Answer × A
+refused x n = (Err n, x)
 
 -- 13, by the proposal's place
 abbrev pub other_proposal : Option Place → Option Place → Bool
@@ -146,10 +149,10 @@ propose_refusals w x places s fit known =
 
 abbrev pub propose : {V : Type 0} → World → ℕ → State V → ℕ → V → Bool → Option Place → Answer × State V
 propose w places x s v fit known =
-    refuse_or (first_of (propose_refusals w x places s fit known)) x
+    option_map_or (refused x) (first_of (propose_refusals w x places s fit known))
     (cond (absent (slot_at x.board s).proposal)
-    (Proposed, entered x v known (with_proposal x.board s (place_of x.used known)))
-    (Already, x))
+    (Ok Proposed, entered x v known (with_proposal x.board s (place_of x.used known)))
+    (Ok Already, x))
 
 abbrev pub forge_refusals : {V : Type 0} → World → State V → ℕ → ℕ → ℕ → ℕ → ℕ → Bool → Option Place → List (Bool × Refusal)
 forge_refusals w x places n s i k fit known =
@@ -161,15 +164,15 @@ forge_refusals w x places n s i k fit known =
     ∷ []))))
 
 abbrev pub stepped : {V : Type 0} → State V → V → Option Place → Heard × List Slot → Answer × State V
-stepped x v known r = (Stepped r.0, entered x v known r.1)
+stepped x v known r = (Ok (Stepped r.0), entered x v known r.1)
 
 -- an ignored message adds nothing
 abbrev pub forge : {V : Type 0} → World → ℕ → State V → ℕ → ℕ → ℕ → ℕ → V → Bool → Option Place → Answer × State V
 forge w places x n s i k v fit known =
-    refuse_or (first_of (forge_refusals w x places n s i k fit known)) x
+    option_map_or (refused x) (first_of (forge_refusals w x places n s i k fit known))
     (cond (heeds_in w x.board s (kind n) i k)
     (stepped x v known (hears_in w x.board s (kind n) i k (place_of x.used known)))
-    (Stepped Ignored, x))
+    (Ok (Stepped Ignored), x))
 
 abbrev pub hand_refusals : World → List Slot → ℕ → ℕ → ℕ → ℕ → List (Bool × Refusal)
 hand_refusals w b n s i k =
@@ -180,13 +183,13 @@ hand_refusals w b n s i k =
 
 -- the message that waits is heard
 abbrev pub brought : World → List Slot → ℕ → Kind → ℕ → ℕ → Option Place → Answer × List Slot
-brought w b s m i k None = (Refused NotWaiting, b)
-brought w b s m i k (Some p) = (Stepped (hears_in w b s m i k p).0, (hears_in w b s m i k p).1)
+brought w b s m i k None = (Err NotWaiting, b)
+brought w b s m i k (Some p) = (Ok (Stepped (hears_in w b s m i k p).0), (hears_in w b s m i k p).1)
 
 -- a hand has no part in the roll
 abbrev pub hand : World → List Slot → ℕ → ℕ → ℕ → ℕ → Answer × List Slot
 hand w b n s i k =
-    refuse_or (first_of (hand_refusals w b n s i k)) b (brought w b s (kind n) i k (waiting_in w b s (kind n) i k))
+    option_map_or (refused b) (first_of (hand_refusals w b n s i k)) (brought w b s (kind n) i k (waiting_in w b s (kind n) i k))
 
 abbrev pub handed_on : {V : Type 0} → State V → Answer × List Slot → Answer × State V
 handed_on x r = (r.0, record { used = x.used; row = x.row; board = r.1 })

@@ -1,8 +1,9 @@
 -- Laws of every run, in terms of the calls that were made and their answers. Assumes nothing.
-use Rattle.std.specs.Prelude.{◌≡◌, ℕ, ◌≤◌, Bool, true, false, cond, not, ◌&&◌, ◌||◌, List, [], ◌∷◌, ◌++◌, length, Some, None, Option, ◌==◌}
+use Rattle.std.specs.Prelude.{◌≡◌, ℕ, ◌≤◌, Bool, true, false, cond, not, ◌&&◌, ◌||◌, List, [], ◌∷◌, ◌++◌, length, Some, None, Option, ◌==◌, Ok, Err, is_ok}
 use Rattle.sets.specs.Sets.{nodes_with}
 use Rattle.trust.specs.Trust.{Trust, holds_quorum, holds_kernel}
 use Rattle.protocol.specs.Hearing.{absent, is, entry}
+use Rattle.protocol.specs.Kinds.{kind_number}
 use Rattle.protocol.specs.declared.message.Place.{Place}
 use Rattle.protocol.specs.declared.message.Kind.{Kind}
 use Rattle.protocol.specs.declared.message.Kind.TheVariants.{Send, Echo, Ready}
@@ -13,11 +14,10 @@ use Rattle.broadcast.specs.Slots.{record_at, said, waiting}
 use Rattle.broadcast.specs.Counts.{any}
 use Rattle.runs.specs.declared.call.Call.{Call}
 use Rattle.runs.specs.declared.call.Call.TheVariants.{Propose, Forge, Hand}
-use Rattle.runs.specs.declared.call.Answer.{Answer}
-use Rattle.runs.specs.declared.call.Answer.TheVariants.{Proposed, Already, Stepped, Refused}
+use Rattle.runs.specs.declared.call.Outcome.TheVariants.{Proposed, Already, Stepped}
 use Rattle.runs.specs.Values.{Values}
-use Rattle.runs.specs.Calls.{World, State, sender, setting, correct, slot_at, kind, known_in, at}
-use Rattle.runs.specs.Promise.{History, CameAbout, accepted, offered}
+use Rattle.runs.specs.Calls.{World, State, sender, setting, correct, slot_at, kind, known_in, at, Answer}
+use Rattle.runs.specs.Promise.{History, CameAbout, offered}
 
 -- the calls of a history without their answers, each with the length of the roll that it was passed
 unfoldable pub asked : {V : Type 0} → History V → List (ℕ × Call V)
@@ -31,15 +31,7 @@ OneOutcome {V} values =
     → asked g ≡ asked h → (g ≡ h) × (x ≡ y)
 
 abbrev pub same_kind : Kind → Kind → Bool
-same_kind Send Send = true
-same_kind Send Echo = false
-same_kind Send Ready = false
-same_kind Echo Send = false
-same_kind Echo Echo = true
-same_kind Echo Ready = false
-same_kind Ready Send = false
-same_kind Ready Echo = false
-same_kind Ready Ready = true
+same_kind a b = kind_number a == kind_number b
 
 -- some call of a history passes, by its answer too
 unfoldable pub some : {V : Type 0} → (Call V → Answer → Bool) → History V → Bool
@@ -57,10 +49,10 @@ step_says m ReadiedDelivered = same_kind m Ready
 
 -- by an answer: a SEND was proposed, an ECHO or a READY was said in a step
 abbrev pub says : Kind → Answer → Bool
-says m Proposed = same_kind m Send
-says m Already = false
-says m (Stepped d) = step_says m d
-says m (Refused n) = false
+says m (Ok Proposed) = same_kind m Send
+says m (Ok Already) = false
+says m (Ok (Stepped d)) = step_says m d
+says m (Err n) = false
 
 -- by this call node i said a message of kind m to all in slot s
 abbrev pub sends : {V : Type 0} → World → ℕ → Kind → ℕ → Call V → Answer → Bool
@@ -72,7 +64,7 @@ sends w s m i (Hand n t j k) a = t == s && k == i && says m a
 abbrev pub hands_over : {V : Type 0} → ℕ → Kind → ℕ → ℕ → Call V → Answer → Bool
 hands_over s m i k (Propose t v) a = false
 hands_over s m i k (Forge n t j l v) a = false
-hands_over s m i k (Hand n t j l) a = accepted a && t == s && same_kind (kind n) m && j == i && l == k
+hands_over s m i k (Hand n t j l) a = is_ok a && t == s && same_kind (kind n) m && j == i && l == k
 
 -- both nodes are correct, i said it, and no accepted hand brought it to k
 abbrev pub waits : {V : Type 0} → World → History V → ℕ → Kind → ℕ → ℕ → Bool
@@ -100,7 +92,7 @@ module _ {V : Type 0} (values : Values V) (w : World) (x : State V) (s k : ℕ) 
 
   unfoldable pub arrivals_at : History V → List Arrival
   arrivals_at [] = []
-  arrivals_at (e ∷ h) = cond (accepted e.answer) (brings e.call) [] ++ arrivals_at h
+  arrivals_at (e ∷ h) = cond (is_ok e.answer) (brings e.call) [] ++ arrivals_at h
 
 abbrev pub or_else : Option Place → Option Place → Option Place
 or_else (Some p) q = Some p
@@ -161,10 +153,10 @@ RecordLaw {V} values =
 
 -- what a call proposed in slot s, by its answer
 abbrev pub proposed_by : {V : Type 0} (values : Values V) → ℕ → Call V → Answer → List values.Meaning
-proposed_by values s (Propose t v) Proposed = cond (t == s) (values.meaning v ∷ []) []
-proposed_by values s (Propose t v) Already = []
-proposed_by values s (Propose t v) (Stepped d) = []
-proposed_by values s (Propose t v) (Refused n) = []
+proposed_by values s (Propose t v) (Ok Proposed) = cond (t == s) (values.meaning v ∷ []) []
+proposed_by values s (Propose t v) (Ok Already) = []
+proposed_by values s (Propose t v) (Ok (Stepped d)) = []
+proposed_by values s (Propose t v) (Err n) = []
 proposed_by values s (Forge n t i k v) a = []
 proposed_by values s (Hand n t i k) a = []
 

@@ -4,3 +4,4 @@ pub mod Readings
 pub mod Promise
 pub mod Laws
 pub mod Theorems
+pub mod Words

@@ -1,5 +1,5 @@
 -- What holds after every list of calls, over every trust rule and value kind.
-use Rattle.std.specs.Prelude.{◌≡◌, ℕ, ◌+◌, ◌*◌, ◌≤◌, Bool, true, false, cond, ◌&&◌, ◌⊎◌, List, [], ◌∷◌, Some, None, Option, ◌==◌}
+use Rattle.std.specs.Prelude.{◌≡◌, ℕ, ◌+◌, ◌*◌, ◌≤◌, Bool, true, false, cond, ◌&&◌, ◌⊎◌, List, [], ◌∷◌, Some, None, Option, ◌==◌, is_ok}
 use Rattle.sets.specs.Sets.{has}
 use Rattle.trust.specs.declared.refusal.Refusal.{Refusal}
 use Rattle.trust.specs.Sorting.{wise_mask, max_guild}
@@ -7,10 +7,8 @@ use Rattle.broadcast.specs.Claims.{Quiet}
 use Rattle.broadcast.specs.Counts.{correct_count}
 use Rattle.runs.specs.declared.call.Call.{Call}
 use Rattle.runs.specs.declared.call.Call.TheVariants.{Propose, Forge, Hand}
-use Rattle.runs.specs.declared.call.Answer.{Answer}
-use Rattle.runs.specs.declared.call.Answer.TheVariants.{Proposed, Already, Stepped, Refused}
 use Rattle.runs.specs.Values.{Values}
-use Rattle.runs.specs.Calls.{World, State, setting, correct, sender, slot_at, slot?, opening, fresh, answer}
+use Rattle.runs.specs.Calls.{World, State, setting, correct, sender, slot_at, slot?, opening, fresh, answer, Answer}
 use Rattle.runs.specs.Readings.{counted, meant_at, held, claims, counts?, tally_of}
 
 abbrev pub Wise : World → ℕ → Type 0
@@ -36,12 +34,6 @@ pub data CameAbout {V : Type 0} (values : Values V) (w : World) : History V → 
       {h : History V} {x : State V} (places : ℕ) (c : Call V) → CameAbout values w h x
       → CameAbout values w (record { places = places; call = c; answer = (answer values w places x c).0 } ∷ h) (answer values w places x c).1
 
-abbrev pub accepted : Answer → Bool
-accepted Proposed = true
-accepted Already = true
-accepted (Stepped _) = true
-accepted (Refused _) = false
-
 -- the accepted hands in slot s
 abbrev pub hand_in : {V : Type 0} → ℕ → Call V → Bool
 hand_in s (Propose t v) = false
@@ -50,7 +42,7 @@ hand_in s (Hand n t i k) = t == s
 
 unfoldable pub handed : {V : Type 0} → ℕ → History V → ℕ
 handed s [] = 0
-handed s (e ∷ h) = cond (hand_in s e.call) (cond (accepted e.answer) 1 0) 0 + handed s h
+handed s (e ∷ h) = cond (hand_in s e.call) (cond (is_ok e.answer) 1 0) 0 + handed s h
 
 -- what the sender of slot s proposed: the meaning of its value
 abbrev pub offered : {V : Type 0} (values : Values V) → State V → ℕ → Option values.Meaning

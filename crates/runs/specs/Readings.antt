@@ -1,5 +1,6 @@
 -- What an open panel's readings answer: receipts, a slot's counts, tallies. They change nothing.
 use Rattle.std.specs.Prelude.{ℕ, zero, suc, ◌+◌, Bool, false, cond, not, ◌&&◌, List, [], ◌∷◌, Some, None, Ok, Err, Option, Result, ◌==◌}
+use Rattle.std.specs.Option.{option_map_or}
 use Rattle.sets.specs.Sets.{node?, all_below}
 use Rattle.trust.specs.declared.refusal.Refusal.{Refusal}
 use Rattle.trust.specs.declared.refusal.Refusal.TheVariants.{RollSize, NoSuch, WrongParty}
@@ -12,16 +13,12 @@ use Rattle.runs.specs.declared.call.Counts.{Counts}
 use Rattle.runs.specs.Values.{Values}
 use Rattle.runs.specs.Calls.{World, State, setting, correct, slot_at, slot?, roll_size, at}
 
-abbrev pub refused_or : {A : Type 0} → Option Refusal → A → Result A Refusal
-refused_or None a = Ok a
-refused_or (Some n) a = Err n
-
 abbrev pub receipt_refusals : World → ℕ → ℕ → List (Bool × Refusal)
 receipt_refusals w s k = (not (slot? w s && node? w.trust.size k), NoSuch) ∷ ((not (correct w k), WrongParty) ∷ [])
 
 -- the place that node k delivered in a slot
 abbrev pub receipt : World → List Slot → ℕ → ℕ → Result (Option Place) Refusal
-receipt w b s k = refused_or (first_of (receipt_refusals w s k)) (record_at (slot_at b s) k).delivered
+receipt w b s k = option_map_or Err (first_of (receipt_refusals w s k)) (Ok (record_at (slot_at b s) k).delivered)
 
 -- a slot's five counts
 abbrev pub counted : World → List Slot → ℕ → Counts
@@ -34,7 +31,7 @@ counted w b s = record {
 }
 
 abbrev pub counts : World → List Slot → ℕ → Result Counts Refusal
-counts w b s = refused_or (first_of ((not (slot? w s), NoSuch) ∷ [])) (counted w b s)
+counts w b s = option_map_or Err (first_of ((not (slot? w s), NoSuch) ∷ [])) (Ok (counted w b s))
 
 -- what the value at a place of the row means
 abbrev pub meant_by : {V : Type 0} (values : Values V) → Option V → Option values.Meaning
@@ -86,4 +83,4 @@ tally_refusals w used places k =
     (roll_size used places, RollSize) ∷ ((not (node? w.trust.size k), NoSuch) ∷ ((not (correct w k), WrongParty) ∷ []))
 
 abbrev pub tally : {V : Type 0} → Values V → World → ℕ → State V → ℕ → ℕ → Result (ℕ × ℕ) Refusal
-tally values w places x k account = refused_or (first_of (tally_refusals w x.used places k)) (tally_of values w x k account)
+tally values w places x k account = option_map_or Err (first_of (tally_refusals w x.used places k)) (Ok (tally_of values w x k account))

@@ -1,4 +1,8 @@
+ghost use Rattle.std.specs.Prelude.{Some};
+ghost use Rattle.runs.specs.Words.{outcome_word};
+
 use protocol::record::Heard;
+use std::fmt;
 use trust::refusal::Refusal;
 
 // What a host asks of an open panel. Any number may be passed for a slot, a node and a kind.
@@ -26,16 +30,30 @@ pub enum Call<V> {
     },
 }
 
-// What a call is answered.
-#[derive(Clone, Copy)]
-pub enum Answer {
+// What a call that is not refused came to.
+#[derive(Clone, Copy, Debug, PartialEq, Eq)]
+pub enum Outcome {
     Proposed,
     // The same value was proposed before.
     Already,
     // What the node did.
     Stepped(Heard),
-    Refused(Refusal),
 }
+
+impl fmt::Display for Outcome {
+    ghost output = { λ outcome. Some (outcome_word outcome) };
+
+    fn fmt<W: fmt::Write>(&self, f: &mut fmt::Formatter<W>) -> fmt::Result {
+        match self {
+            Outcome::Proposed => f.write_str("proposed"),
+            Outcome::Already => f.write_str("already"),
+            Outcome::Stepped(heard) => heard.fmt(f),
+        }
+    }
+}
+
+// What a call is answered.
+pub type Answer = Result<Outcome, Refusal>;
 
 // A call of a list, and beside it its answer once it was made.
 #[derive(Clone, Copy)]
@@ -45,7 +63,7 @@ pub struct Entry<V> {
 }
 
 // A slot's five counts, over correct nodes: proposals, nodes that echoed, nodes that readied, accepted hands, waiting messages.
-#[derive(Clone, Copy)]
+#[derive(Clone, Copy, Debug, PartialEq, Eq)]
 pub struct Counts {
     pub proposed: u32,
     pub echoed: u32,

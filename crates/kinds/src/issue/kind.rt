@@ -10,12 +10,7 @@ impl ValueKind for Issue {
     ghost values = { issues };
 
     fn same(&self, other: &Issue) -> bool {
-        self.account == other.account
-            && self.device == other.device
-            && self.request == other.request
-            && self.key_print == other.key_print
-            && self.start == other.start
-            && self.end == other.end
+        self == other
     }
 
     fn fit(&self) -> bool {

@@ -7,7 +7,7 @@ impl ValueKind for Withdrawal {
     ghost values = { withdrawals };
 
     fn same(&self, other: &Withdrawal) -> bool {
-        self.serial == other.serial
+        self == other
     }
 
     fn fit(&self) -> bool {

@@ -1,19 +1,30 @@
-ghost use Rattle.std.specs.Prelude.{◌≤◌};
+ghost use Rattle.std.specs.Prelude.{◌≡◌, ℕ, ◌≤◌, not, ◌&&◌};
+ghost use Rattle.sets.specs.Sets.{node?, has};
 
+use protocol::slot::Slot;
 use sets::{Node, NodeSet};
 
-// Who takes part in a slot: the nodes 1 to `size`, which of them are faulty, and the slot's sender.
+// The nodes 1 to `size`, and which of them are faulty.
 #[derive(Clone, Copy)]
-pub struct Parties {
+pub(crate) struct Parties {
     pub size: u32,
     pub faulty: NodeSet,
-    pub sender: Node,
     ghost few: { size ≤ 16 },
 }
 
-// What became of a message between correct nodes: it was heard, or it waits.
+// One broadcast: who takes part, whose it is, and what has happened in its slot.
 #[derive(Clone, Copy)]
-pub enum Fate {
-    Heard,
-    Waiting,
+pub(crate) struct Broadcast<'b> {
+    pub parties: Parties,
+    pub sender: Node,
+    pub slot: &'b Slot,
+}
+
+impl Parties {
+    // One of the nodes, and not faulty.
+    pub(crate) fn is_correct(self, node: Node) -> bool
+        ensures { result ≡ (node? self.size node.0 && not (has self.faulty.0 node.0)) }
+    {
+        node.is_among(self.size) && !self.faulty.has(node)
+    }
 }

@@ -1,4 +1,7 @@
-ghost use Rattle.std.specs.Prelude.{◌≡◌, ℕ, ◌+◌, ◌<◌, ◌≤◌, false, length, replicate, if◌then◌else◌, slice_set};
+ghost use Rattle.std.specs.Prelude.{◌≡◌, ℕ, ◌+◌, ◌<◌, ◌≤◌, [], ◌∷◌, length, replicate, if◌then◌else◌, slice_set, take, OnOk, OnErr, IfOk};
+ghost use Rattle.std.specs.Result.{result_err};
+ghost use Rattle.trust.specs.Refusals.{first_of};
+ghost use Rattle.trust.specs.declared.refusal.Refusal.TheVariants.{RollFull};
 ghost use Rattle.runs.specs.Calls.{slot_at, with_proposal, place_of, roll_full};
 ghost use Rattle.protocol.specs.Hearing.{absent, hear};
 ghost use Rattle.broadcast.specs.Slots.{Setting, record_at};
@@ -6,10 +9,12 @@ ghost use Rattle.broadcast.specs.Events.{hears};
 ghost use Rattle.protocol.specs.Fresh.{fresh_slot};
 
 use super::Board;
+use super::index::{Member, SlotIndex};
 use protocol::message::{Message, Place};
 use protocol::record::Heard;
 use protocol::slot::Slot;
 use sets::Node;
+use trust::refusal::Refusal;
 use trust::rule::TrustRule;
 
 impl Board {
@@ -23,60 +28,68 @@ impl Board {
         }
     }
 
-    // A slot's proposal.
-    pub(crate) fn proposal(&self, slot: usize) -> Option<Place>
-        requires { slot < 16 }
-        ensures { result ≡ (slot_at self.now.slots slot).proposal }
+    pub(crate) fn slot(&self, slot: SlotIndex) -> &Slot
+        ensures { result.now ≡ slot_at self.now.slots slot.number }
     {
-        self.slots[slot].proposal
+        &self.slots[slot.index()]
+    }
+
+    // The slots below one.
+    pub(crate) fn below(&self, slot: SlotIndex) -> &[Slot]
+        ensures count { length result.now ≡ slot.number }
+        ensures slots { result.now ≡ take slot.number self.now.slots }
+    {
+        &self.slots[..slot.index()]
     }
 
     // The sender of a slot proposes the value at a place.
-    pub(crate) fn set_proposal(&mut self, slot: usize, place: Place)
-        requires { slot < 16 }
-        ensures slots { self.new.slots ≡ with_proposal self.old.slots slot place }
+    pub(crate) fn set_proposal(&mut self, slot: SlotIndex, place: Place)
+        ensures slots { self.new.slots ≡ with_proposal self.old.slots slot.number place }
         ensures used { self.new.used ≡ self.old.used }
     {
-        self.slots[slot].proposal = Some(place);
+        self.slots[slot.index()].proposal = Some(place);
     }
 
     // A node hears a message in a slot.
     pub(crate) fn hear<R: TrustRule>(
         &mut self,
         rule: &R,
-        slot: usize,
+        slot: SlotIndex,
         sender: Node,
-        to: Node,
+        to: Member,
         message: Message,
     ) -> Heard
-        requires { (slot < 16) × ((1 ≤ to.0) × (to.0 ≤ 16)) }
-        ensures said { result ≡ (hear (R.meaning rule.now) to.0 sender.0 (record_at (slot_at self.old.slots slot) to.0) message.kind message.from.0 message.place).1 }
-        ensures slots { (faulty : ℕ) → self.new.slots ≡ slice_set self.old.slots slot (hears (record { trust = R.meaning rule.now; faulty = faulty; sender = sender.0 }) message.kind message.from.0 to.0 message.place (slot_at self.old.slots slot)) }
+        ensures said { result ≡ (hear (R.meaning rule.now) to.node.0 sender.0 (record_at (slot_at self.old.slots slot.number) to.node.0) message.kind message.from.0 message.place).1 }
+        ensures slots { (faulty : ℕ) → self.new.slots ≡ slice_set self.old.slots slot.number (hears (record { trust = R.meaning rule.now; faulty = faulty; sender = sender.0 }) message.kind message.from.0 to.node.0 message.place (slot_at self.old.slots slot.number)) }
         ensures used { self.new.used ≡ self.old.used }
     {
-        let k = (to.0 - 1) as usize;
-        let mut record = self.slots[slot].records[k];
-        let heard = record.hear(rule, to, sender, message);
-        self.slots[slot].records[k] = record;
-        heard
+        self.slots[slot.index()].records[to.index()].hear(rule, to.node, sender, message)
     }
 
     // The place of a value: where it is known, or the next place of the roll, where it goes.
-    pub(crate) fn enter<V: Copy>(&mut self, roll: &mut [V], value: V, known: Option<Place>) -> Place
-        requires { (length roll.old ≤ 255) × (roll_full self.old.used (length roll.old) known ≡ false) }
-        ensures place { result ≡ place_of self.old.used known }
+    pub(crate) fn enter<V: Copy>(
+        &mut self,
+        roll: &mut [V],
+        value: V,
+        known: Option<Place>,
+    ) -> Result<Place, Refusal>
+        requires { length roll.old ≤ 255 }
+        ensures full { result_err result ≡ first_of ((roll_full self.old.used (length roll.old) known, RollFull) ∷ []) }
+        ensures place { IfOk result (λ place. place ≡ place_of self.old.used known) }
         ensures slots { self.new.slots ≡ self.old.slots }
-        ensures used { self.new.used ≡ (if absent known then self.old.used + 1 else self.old.used) }
-        ensures roll { roll.new ≡ (if absent known then slice_set roll.old self.old.used value else roll.old) }
+        ensures used { OnOk result (self.new.used ≡ (if absent known then self.old.used + 1 else self.old.used)) }
+        ensures roll { OnOk result (roll.new ≡ (if absent known then slice_set roll.old self.old.used value else roll.old)) }
+        ensures err { OnErr result ((self.new.used ≡ self.old.used) × (roll.new ≡ roll.old)) }
     {
-        match known {
-            Some(place) => place,
-            None => {
-                let at = self.used;
-                roll[at] = value;
-                self.used = at + 1;
-                Place(at as u8)
-            }
+        if let Some(place) = known {
+            return Ok(place);
         }
+        let at = self.used;
+        if roll.len() <= at {
+            return Err(Refusal::RollFull);
+        }
+        roll[at] = value;
+        self.used = at + 1;
+        Ok(Place(at as u8))
     }
 }

@@ -1,53 +1,39 @@
-ghost use Rattle.std.specs.Prelude.{◌≡◌, ℕ, ◌<◌, ◌≤◌, []};
-ghost use Rattle.trust.specs.Refusals.{first_of};
-ghost use Rattle.runs.specs.Calls.{forge_refusals};
+ghost use Rattle.std.specs.Prelude.{◌≡◌, not, ◌&&◌};
+ghost use Rattle.runs.specs.Calls.{correct, hears_in};
 ghost use Rattle.runs.specs.declared.call.Call.TheVariants.{Forge};
-ghost use Rattle.panel.specs.Views.{world_of, state_of, Does, Hands};
+ghost use Rattle.panel.specs.Views.{world_of, Does, Hands};
 
 use super::Panel;
-use super::messages::kind_of;
+use crate::board::index::{Route, SlotIndex};
 use crate::roll::find;
 use protocol::message::{Message, Place};
 use protocol::record::Heard;
-use runs::call::Answer;
+use runs::call::{Answer, Outcome};
 use runs::value::ValueKind;
-use sets::Node;
 use trust::refusal::Refusal;
 use trust::rule::TrustRule;
 
 impl<'r, R: TrustRule> Panel<'r, R> {
-    // Why a message with a value, which stands at that place if it is known, may not be forged. An ignored one needs no place.
-    fn forge_refusal(
-        &self,
-        places: usize,
-        kind: u32,
-        slot: u32,
-        from: u32,
-        to: u32,
-        fit: bool,
-        known: Option<Place>,
-    ) -> Option<Refusal>
-        ensures { result ≡ first_of (forge_refusals (world_of R.meaning self.now) (state_of {V = Unit {0}} self.now []) places kind slot from to fit known) }
+    // A message with the value at a place reaches its node.
+    fn bring(&mut self, slot: SlotIndex, route: Route, place: Place) -> Heard
+        ensures hears { hears_in (world_of R.meaning self.old) self.old.board.slots slot.number route.kind route.from.node.0 route.to.node.0 place ≡ (result, self.new.board.slots) }
+        ensures same_world { world_of R.meaning self.new ≡ world_of R.meaning self.old }
+        ensures same_used { self.new.board.used ≡ self.old.board.used }
     {
-        if self.is_roll_unfit(places) {
-            return Some(Refusal::RollSize);
-        }
-        if !self.is_message(kind, slot, from, to) {
-            return Some(Refusal::NoSuch);
-        }
-        if self.is_correct(from) || !self.is_correct(to) {
-            return Some(Refusal::WrongParty);
-        }
-        if !fit {
-            return Some(Refusal::Unfit);
-        }
-        if self.heeds(kind_of(kind), slot, from, to)
-            && known.is_none()
-            && places <= self.board.used
-        {
-            return Some(Refusal::RollFull);
-        }
-        None
+        let sender = self.sender(slot);
+        let message = Message {
+            kind: route.kind,
+            from: route.from.node,
+            place,
+        };
+        self.board.hear(self.rule, slot, sender, route.to, message)
+    }
+
+    // From a faulty node to a correct one.
+    fn is_forgeable(&self, route: Route) -> bool
+        ensures { result ≡ (not (correct (world_of R.meaning self.now) route.from.node.0) && correct (world_of R.meaning self.now) route.to.node.0) }
+    {
+        !self.is_correct(route.from.node) && self.is_correct(route.to.node)
     }
 
     // A faulty node's message, with any fit value, reaches a correct node.
@@ -62,58 +48,32 @@ impl<'r, R: TrustRule> Panel<'r, R> {
     ) -> Answer
         ensures { Does V.values R.meaning self.old roll.old (Forge kind slot from to value) result self.new roll.new }
     {
-        let known = find(roll, self.board.used, &value);
-        if let Some(refusal) = self.forge_refusal(
-            roll.len(),
-            kind,
-            slot,
-            from,
-            to,
-            value.fit(),
-            known,
-        ) {
-            return Answer::Refused(refusal);
+        self.check_roll(roll.len())?;
+        let (slot, route) = self.route(kind, slot, from, to)?;
+        if !self.is_forgeable(route) {
+            return Err(Refusal::WrongParty);
         }
-        let kind = kind_of(kind);
-        if !self.heeds(kind, slot, from, to) {
-            return Answer::Stepped(Heard::Ignored);
+        if !value.fit() {
+            return Err(Refusal::Unfit);
         }
-        let sender = Node(self.sender(slot));
-        let place = self.board.enter(roll, value, known);
-        let message = Message {
-            kind,
-            from: Node(from),
-            place,
-        };
-        Answer::Stepped(
-            self.board
-                .hear(self.rule, slot as usize, sender, Node(to), message),
-        )
+        // An ignored message needs no place.
+        if !self.heeds(slot, route) {
+            return Ok(Outcome::Stepped(Heard::Ignored));
+        }
+        let known = find(&roll[..self.board.used], &value);
+        let place = self.board.enter(roll, value, known)?;
+        Ok(Outcome::Stepped(self.bring(slot, route, place)))
     }
 
     // A waiting message of a correct node reaches a correct node.
     pub fn hand(&mut self, kind: u32, slot: u32, from: u32, to: u32) -> Answer
         ensures { Hands R.meaning self.old kind slot from to result self.new }
     {
-        if !self.is_message(kind, slot, from, to) {
-            return Answer::Refused(Refusal::NoSuch);
+        let (slot, route) = self.route(kind, slot, from, to)?;
+        if !self.is_correct(route.from.node) || !self.is_correct(route.to.node) {
+            return Err(Refusal::WrongParty);
         }
-        if !self.is_correct(from) || !self.is_correct(to) {
-            return Answer::Refused(Refusal::WrongParty);
-        }
-        let kind = kind_of(kind);
-        let Some(place) = self.waiting(kind, slot, from, to) else {
-            return Answer::Refused(Refusal::NotWaiting);
-        };
-        let sender = Node(self.sender(slot));
-        let message = Message {
-            kind,
-            from: Node(from),
-            place,
-        };
-        Answer::Stepped(
-            self.board
-                .hear(self.rule, slot as usize, sender, Node(to), message),
-        )
+        let place = self.waiting(slot, route).ok_or(Refusal::NotWaiting)?;
+        Ok(Outcome::Stepped(self.bring(slot, route, place)))
     }
 }

@@ -40,10 +40,8 @@ impl<'r, R: TrustRule> Panel<'r, R> {
         ensures laws { AllHold (theorems V.values) }
         ensures further { AllHold (further_theorems V.values) }
     {
-        for i in 0..log.len() {
-            let call = log[i].call;
-            let answer = self.make(roll, call);
-            log[i] = Entry { call, answer };
+        for entry in log.iter_mut() {
+            entry.answer = self.make(roll, entry.call);
         }
     }
 }
