@@ -1,7 +1,6 @@
 -- The table of worked samples. Assumes nothing.
 use Rattle.std.specs.Prelude.{◌≡◌, ℕ, zero, suc, ◌+◌, true, false, List, [], ◌∷◌, map, Some, None, Option}
 use Rattle.sets.specs.Sets.{node?, rest}
-use Rattle.trust.specs.declared.judging.PairVerdict.TheVariants.{FirstFailing}
 use Rattle.trust.specs.Trust.{Trust, holds_kernel, sound}
 use Rattle.trust.specs.Sorting.{wise_mask, naive_mask, max_guild}
 use Rattle.trust.specs.Judging.{b3, first_pair}
@@ -67,7 +66,7 @@ pub record Samples : Type 0 where
   pub s7 : Sorts 0x18 0x07 0x00 0x07
   pub s8 : (sound (threshold 4 1 3) ≡ true) × (sound (threshold 3 1 2) ≡ false)
   pub s9 : (i : ℕ) → node? 4 i ≡ true → (holds_kernel (threshold 4 1 3) i 0x3 ≡ true) × (holds_kernel (threshold 4 1 3) i 0x1 ≡ false)
-  pub s10 : first_pair 4 4 (b3 four) ≡ FirstFailing (record { 0 = 1 }) (record { 0 = 2 })
+  pub s10 : first_pair 4 4 (b3 four) ≡ Some (record { 0 = 1 }, record { 0 = 2 })
   pub s11 : (fit_issue (renewed 1 7776000) ≡ true) × (fit_issue (renewed 1 7776001) ≡ false) × (fit_issue (renewed 1 0) ≡ false)
   pub s12 : tally_of issues (record { trust = five; slots = 6; faulty = 0 }) twice_claimed 1 7 ≡ (1, 1)
 
