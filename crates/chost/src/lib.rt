@@ -5,11 +5,10 @@ ghost use Rattle.trust.specs.Refusals.{refusal_number};
 ghost use Rattle.chost.specs.Packed.{packed_masks, packed_refusal, packed, Packs};
 
 use sets::NodeSet;
-use text::reading::read_statement;
+use text::reading::statement_of;
 use trust::refusal::Refusal;
 use trust::rule::TrustRule;
 use trust::sorting::{Sorted, sort};
-use trust::statement::Statement;
 
 // Wise in bits 0 to 15, guild in 16 to 31.
 fn pack_masks(sorted: Sorted) -> u64
@@ -45,9 +44,8 @@ fn pack<R: TrustRule>(rule: &R, faulty: NodeSet) -> u64
 pub extern "C" fn zurbeshik_guild(text: &[u8], faulty: u16) -> u64
     ensures { Packs text.now faulty result }
 {
-    let mut statement = Statement::fresh();
-    match read_statement(text, &mut statement) {
-        Ok(()) => pack(&statement, NodeSet(faulty)),
+    match statement_of(text) {
+        Ok(statement) => pack(&statement, NodeSet(faulty)),
         Err(fault) => pack_refusal(fault.refusal),
     }
 }

@@ -9,11 +9,10 @@ use crate::written::Row;
 use sets::NodeSet;
 use std::alloc::{AllocError, Global};
 use std::fmt::Write;
-use text::reading::read_statement;
+use text::reading::statement_of;
 use trust::refusal::Refusal;
 use trust::rule::TrustRule;
 use trust::sorting::sort;
-use trust::statement::Statement;
 
 // The one line of a refusal.
 pub(crate) fn refused_line(
@@ -63,9 +62,8 @@ fn table<R: TrustRule>(heap: Global, rule: &R) -> Result<String, AllocError>
 pub fn report(heap: Global, text: &[u8]) -> Result<String, AllocError>
     ensures { IfOk result (λ out. Reports text.now (string_bytes out)) }
 {
-    let mut statement = Statement::fresh();
-    match read_statement(text, &mut statement) {
-        Ok(()) => table(heap, &statement),
+    match statement_of(text) {
+        Ok(statement) => table(heap, &statement),
         Err(fault) => refused_line(heap, fault.refusal, fault.line),
     }
 }

@@ -7,7 +7,7 @@ use crate::guilds::refused_line;
 use sets::Node;
 use std::alloc::{AllocError, Global};
 use std::fmt;
-use text::reading::read_statement;
+use text::reading::statement_of;
 use trust::judging::Judgement;
 use trust::rule::TrustRule;
 use trust::statement::Statement;
@@ -71,9 +71,8 @@ fn judgement_text(heap: Global, statement: &Statement) -> Result<String, AllocEr
 pub fn report_judgement(heap: Global, text: &[u8]) -> Result<String, AllocError>
     ensures { IfOk result (λ out. Judges text.now (string_bytes out)) }
 {
-    let mut statement = Statement::fresh();
-    match read_statement(text, &mut statement) {
-        Ok(()) => judgement_text(heap, &statement),
+    match statement_of(text) {
+        Ok(statement) => judgement_text(heap, &statement),
         Err(fault) => refused_line(heap, fault.refusal, fault.line),
     }
 }

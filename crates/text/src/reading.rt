@@ -15,9 +15,9 @@ pub struct Fault<'t> {
     pub at: usize,
 }
 
-// Reads a text into a statement. A refused text leaves the statement as it was.
-pub fn read_statement<'t>(text: &'t [u8], statement: &mut Statement) -> Result<(), Fault<'t>>
-    ensures { elim result [ Ok _ ↦ Accepts text.now statement.new | Err f ↦ Refuses text.now f.refusal f.line f.at f.part.now × (statement.new ≡ statement.old) ] }
+// The statement that a text gives, or the fault of its first bad line.
+pub fn statement_of(text: &[u8]) -> Result<Statement, Fault<'_>>
+    ensures { elim result [ Ok s ↦ Accepts text.now s | Err f ↦ Refuses text.now f.refusal f.line f.at f.part.now ] }
 {
     let mut draft = Draft::empty();
     let mut reader = Reader::new(text);
@@ -29,11 +29,19 @@ pub fn read_statement<'t>(text: &'t [u8], statement: &mut Statement) -> Result<(
             at: line.at,
         })?;
     }
-    *statement = draft.finish().map_err(|refusal| Fault {
+    let statement = draft.finish().map_err(|refusal| Fault {
         refusal,
         line: reader.line + 1,
         part: &text[text.len()..],
         at: text.len(),
     })?;
+    Ok(statement)
+}
+
+// Reads a text into a statement. A refused text leaves the statement as it was.
+pub fn read_statement<'t>(text: &'t [u8], statement: &mut Statement) -> Result<(), Fault<'t>>
+    ensures { elim result [ Ok _ ↦ Accepts text.now statement.new | Err f ↦ Refuses text.now f.refusal f.line f.at f.part.now × (statement.new ≡ statement.old) ] }
+{
+    *statement = statement_of(text)?;
     Ok(())
 }
