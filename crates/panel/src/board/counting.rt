@@ -1,6 +1,5 @@
 ghost use Rattle.std.specs.Prelude.{◌≡◌, ℕ, ◌≤◌, Bool};
-ghost use Rattle.broadcast.specs.Slots.{said};
-ghost use Rattle.broadcast.specs.Counts.{any, count, between, each_kind};
+ghost use Rattle.broadcast.specs.Counts.{count, between, each_kind};
 ghost use Rattle.panel.specs.Broadcasts.{setting_of, says, Tests, TestsRoutes, counts_in};
 
 use super::index::{Member, Route};

@@ -1,5 +1,5 @@
-ghost use Rattle.std.specs.Prelude.{◌≡◌, ℕ, ◌-◌, ◌<◌, ◌≤◌};
-ghost use Rattle.protocol.specs.Hearing.{taken, may_say, absent, heeds};
+ghost use Rattle.std.specs.Prelude.{◌≡◌};
+ghost use Rattle.protocol.specs.Hearing.{taken, heeds};
 ghost use Rattle.broadcast.specs.Slots.{record_at, said, waiting};
 ghost use Rattle.panel.specs.Broadcasts.{setting_of};
 

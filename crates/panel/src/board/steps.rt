@@ -1,10 +1,10 @@
-ghost use Rattle.std.specs.Prelude.{◌≡◌, ℕ, ◌+◌, ◌<◌, ◌≤◌, [], ◌∷◌, length, replicate, if◌then◌else◌, slice_set, take, OnOk, OnErr, IfOk};
+ghost use Rattle.std.specs.Prelude.{◌≡◌, ℕ, ◌+◌, ◌≤◌, [], ◌∷◌, length, replicate, if◌then◌else◌, slice_set, take, OnOk, OnErr, IfOk};
 ghost use Rattle.std.specs.Result.{result_err};
 ghost use Rattle.trust.specs.Refusals.{first_of};
 ghost use Rattle.trust.specs.declared.refusal.Refusal.TheVariants.{RollFull};
 ghost use Rattle.runs.specs.Calls.{slot_at, with_proposal, place_of, roll_full};
 ghost use Rattle.protocol.specs.Hearing.{absent, hear};
-ghost use Rattle.broadcast.specs.Slots.{Setting, record_at};
+ghost use Rattle.broadcast.specs.Slots.{record_at};
 ghost use Rattle.broadcast.specs.Events.{hears};
 ghost use Rattle.protocol.specs.Fresh.{fresh_slot};
 

@@ -1,4 +1,4 @@
-ghost use Rattle.std.specs.Prelude.{◌≡◌, ◌<◌, ◌≤◌};
+ghost use Rattle.std.specs.Prelude.{◌≡◌, ◌≤◌};
 ghost use Rattle.broadcast.specs.Slots.{record_at};
 ghost use Rattle.runs.specs.Readings.{meant_at, claims, first_claim, counts?, of_account, tally_of};
 ghost use Rattle.panel.specs.Boards.{state_on, of_slots, lent};

@@ -1,4 +1,3 @@
-ghost use Rattle.std.specs.Prelude.{◌≡◌};
 ghost use Rattle.panel.specs.Views.{Does};
 ghost use Rattle.runs.specs.declared.call.Call.TheVariants.{Propose};
 

@@ -1,4 +1,3 @@
-ghost use Rattle.std.specs.Prelude.{◌≡◌};
 ghost use Rattle.broadcast.specs.Theorems.{AllHold};
 ghost use Rattle.runs.specs.Theorems.{theorems, further_theorems};
 ghost use Rattle.panel.specs.Views.{Does};
