@@ -1,17 +1,10 @@
 #![tactic(auto)]
 
 use reports::judgement::report_judgement;
-use std::io::Read;
+use reports::printing::print_report;
 
 // Reads a statement text from standard input and prints its judgement, or the line of its refusal.
-fn print_judgement(rt: &HostRuntime) -> anyhow::Result<()> {
-    let mut text = Vec::new(rt.alloc());
-    rt.stdin().read_to_end(&mut text)?;
-    let out = report_judgement(rt.alloc(), text.as_slice())?;
-    rt.print(out.as_str())?;
-    Ok(())
-}
-
 fn main(rt: HostRuntime) -> anyhow::Result<()> {
-    print_judgement(&rt)
+    print_report(&rt, report_judgement)?;
+    Ok(())
 }
