@@ -1,9 +1,8 @@
-use crate::line::Call;
+use crate::line::{Call, Reading};
 use crate::said::Said;
 use crate::values::Written;
 use crate::words::{mask, number};
 use panel::panel::Panel;
-use runs::value::ValueKind;
 use std::alloc::{AllocError, Global};
 use trust::rule::TrustRule;
 
@@ -20,7 +19,7 @@ fn roll_of<'v, V>(row: &'v mut [V], length: &str) -> Option<&'v mut [V]> {
     row.get_mut(..number(length)?)
 }
 
-impl<'r, R: TrustRule, V: ValueKind + Copy + Written> Host<'r, R, V> {
+impl<'r, R: TrustRule, V: Written> Host<'r, R, V> {
     // A row of so many values, with all fields 0.
     pub(crate) fn new(
         heap: Global,
@@ -34,72 +33,77 @@ impl<'r, R: TrustRule, V: ValueKind + Copy + Written> Host<'r, R, V> {
         })
     }
 
-    // These answer nothing where the fields have not the form of the step.
+    // This and the following answer nothing where the fields have not the form of the step.
     pub(crate) fn open(&mut self, fields: &[&str]) -> Option<Said> {
-        let [slots, faulty, roll] = fields else {
-            return None;
-        };
+        let [slots, faulty, roll] = fields.as_array::<3>()?;
         let roll = roll_of(self.row.as_mut_slice(), roll)?;
-        Some(
-            match Panel::open(self.rule, number(slots)?, mask(faulty)?, roll) {
-                Ok(panel) => {
-                    self.panel = Some(panel);
-                    Said::Opened
-                }
-                Err(refusal) => Said::Refused(refusal),
-            },
-        )
+        match Panel::open(self.rule, number(slots)?, mask(faulty)?, roll) {
+            Ok(panel) => {
+                self.panel = Some(panel);
+                Some(Said::Opened)
+            }
+            Err(refusal) => Some(Said::Refused(refusal)),
+        }
     }
 
     // The value at a place of the row.
     pub(crate) fn place(&self, fields: &[&str]) -> Option<Said> {
-        let [place] = fields else {
-            return None;
-        };
+        let [place] = fields.as_array::<1>()?;
         Some(self.row.get(number::<usize>(place)?)?.said())
     }
 
+    // A call may change the panel and the row.
     pub(crate) fn call(&mut self, call: Call, fields: &[&str]) -> Option<Said> {
         let Some(panel) = &mut self.panel else {
             return Some(Said::Missing);
         };
         let row = self.row.as_mut_slice();
-        Some(match (call, fields) {
-            (Call::Propose, [slot, value, roll]) => {
-                let roll = roll_of(row, roll)?;
-                Said::Answered(panel.propose(roll, number(slot)?, V::read(value)?))
+        Some(Said::Answered(match call {
+            Call::Propose => {
+                let [slot, value, roll] = fields.as_array::<3>()?;
+                panel.propose(roll_of(row, roll)?, number(slot)?, V::read(value)?)
             }
-            (Call::Forge, [kind, slot, from, to, value, roll]) => {
-                let [kind, slot, from, to] = [
+            Call::Forge => {
+                let [kind, slot, from, to, value, roll] = fields.as_array::<6>()?;
+                panel.forge(
+                    roll_of(row, roll)?,
                     number(kind)?,
                     number(slot)?,
                     number(from)?,
                     number(to)?,
-                ];
-                let roll = roll_of(row, roll)?;
-                Said::Answered(panel.forge(roll, kind, slot, from, to, V::read(value)?))
+                    V::read(value)?,
+                )
             }
-            (Call::Hand, [kind, slot, from, to]) => {
-                let [kind, slot, from, to] = [
-                    number(kind)?,
-                    number(slot)?,
-                    number(from)?,
-                    number(to)?,
-                ];
-                Said::Answered(panel.hand(kind, slot, from, to))
+            Call::Hand => {
+                let [kind, slot, from, to] = fields.as_array::<4>()?;
+                panel.hand(number(kind)?, number(slot)?, number(from)?, number(to)?)
             }
-            (Call::Receipt, [slot, node]) => panel
-                .receipt(number(slot)?, number(node)?)
-                .map_or_else(Said::Refused, Said::Receipt),
-            (Call::Counts, [slot]) => panel
-                .counts(number(slot)?)
-                .map_or_else(Said::Refused, Said::Counts),
-            (Call::Tally, [node, account, roll]) => panel
-                .tally(roll_of(row, roll)?, number(node)?, number(account)?)
-                .map_or_else(Said::Refused, |(counted, left_out)| {
+        }))
+    }
+
+    pub(crate) fn read(&self, reading: Reading, fields: &[&str]) -> Option<Said> {
+        let Some(panel) = &self.panel else {
+            return Some(Said::Missing);
+        };
+        Some(match reading {
+            Reading::Receipt => {
+                let [slot, node] = fields.as_array::<2>()?;
+                let receipt = panel.receipt(number(slot)?, number(node)?);
+                receipt.map_or_else(Said::Refused, Said::Receipt)
+            }
+            Reading::Counts => {
+                let [slot] = fields.as_array::<1>()?;
+                let counts = panel.counts(number(slot)?);
+                counts.map_or_else(Said::Refused, Said::Counts)
+            }
+            Reading::Tally => {
+                let [node, account, roll] = fields.as_array::<3>()?;
+                let roll = self.row.get(..number(roll)?)?;
+                let tally = panel.tally(roll, number(node)?, number(account)?);
+                tally.map_or_else(Said::Refused, |(counted, left_out)| {
                     Said::Tally(counted, left_out)
-                }),
-            _ => return None,
+                })
+            }
         })
     }
 }

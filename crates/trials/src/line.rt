@@ -20,12 +20,17 @@ pub enum Question {
     Sort,
 }
 
-// What an open panel is asked.
+// A call of an open panel.
 #[derive(Clone, Copy)]
 pub enum Call {
     Propose,
     Forge,
     Hand,
+}
+
+// A reading of an open panel.
+#[derive(Clone, Copy)]
+pub enum Reading {
     Receipt,
     Counts,
     Tally,
@@ -42,6 +47,7 @@ pub enum Verb {
     Open,
     Place,
     Call(Call),
+    Read(Reading),
 }
 
 // What stands before a step whose answer must not be the one written: it shows that a run sees a wrong answer.
@@ -79,9 +85,9 @@ impl Verb {
             "propose" => Verb::Call(Call::Propose),
             "forge" => Verb::Call(Call::Forge),
             "hand" => Verb::Call(Call::Hand),
-            "receipt" => Verb::Call(Call::Receipt),
-            "counts" => Verb::Call(Call::Counts),
-            "tally" => Verb::Call(Call::Tally),
+            "receipt" => Verb::Read(Reading::Receipt),
+            "counts" => Verb::Read(Reading::Counts),
+            "tally" => Verb::Read(Reading::Tally),
             _ => return None,
         })
     }

@@ -7,8 +7,6 @@ use crate::values::Written;
 use crate::words::number;
 use kinds::issue::Issue;
 use kinds::withdrawal::Withdrawal;
-use runs::value::ValueKind;
-use trust::rule::TrustRule;
 
 // The kinds of value of a row, with its length.
 #[derive(Clone, Copy)]
@@ -19,9 +17,7 @@ enum RowOf {
 
 // The row of a line `roll KIND LENGTH`.
 fn row_of(fields: &[&str]) -> Option<RowOf> {
-    let [kind, length] = fields else {
-        return None;
-    };
+    let [kind, length] = fields.as_array::<2>()?;
     let length = number(length)?;
     match *kind {
         "issue" => Some(RowOf::Issues(length)),
@@ -64,24 +60,22 @@ impl<P: Print + AllocGlobal> Run<'_, P> {
 
     fn play_without_rule(&mut self, lines: &[Line<'_>]) -> anyhow::Result<()> {
         self.play_lines(lines, |verb, _| match verb {
-            Verb::Ask(_) | Verb::Open | Verb::Place | Verb::Call(_) => Some(Said::Missing),
+            Verb::Ask(_) | Verb::Open | Verb::Place | Verb::Call(_) | Verb::Read(_) => {
+                Some(Said::Missing)
+            }
             Verb::Case | Verb::Make(_) | Verb::Roll => None,
         })
     }
 
-    fn play_without_row<R: TrustRule + Judging>(
-        &mut self,
-        rule: &R,
-        lines: &[Line<'_>],
-    ) -> anyhow::Result<()> {
+    fn play_without_row<R: Judging>(&mut self, rule: &R, lines: &[Line<'_>]) -> anyhow::Result<()> {
         self.play_lines(lines, |verb, fields| match verb {
             Verb::Ask(question) => ask(rule, question, fields),
-            Verb::Open | Verb::Place | Verb::Call(_) => Some(Said::Missing),
+            Verb::Open | Verb::Place | Verb::Call(_) | Verb::Read(_) => Some(Said::Missing),
             Verb::Case | Verb::Make(_) | Verb::Roll => None,
         })
     }
 
-    fn play_with_row<R: TrustRule + Judging, V: ValueKind + Copy + Written>(
+    fn play_with_row<R: Judging, V: Written>(
         &mut self,
         rule: &R,
         length: u16,
@@ -93,12 +87,13 @@ impl<P: Print + AllocGlobal> Run<'_, P> {
             Verb::Open => host.open(fields),
             Verb::Place => host.place(fields),
             Verb::Call(call) => host.call(call, fields),
+            Verb::Read(reading) => host.read(reading, fields),
             Verb::Case | Verb::Make(_) | Verb::Roll => None,
         })
     }
 
     // Plays a part that begins with the line of its row.
-    fn play_row<R: TrustRule + Judging>(
+    fn play_row<R: Judging>(
         &mut self,
         rule: &R,
         first: &Line<'_>,
@@ -118,11 +113,7 @@ impl<P: Print + AllocGlobal> Run<'_, P> {
     }
 
     // Plays lines that have a rule, row by row.
-    fn play_rows<R: TrustRule + Judging>(
-        &mut self,
-        rule: &R,
-        lines: &[Line<'_>],
-    ) -> anyhow::Result<()> {
+    fn play_rows<R: Judging>(&mut self, rule: &R, lines: &[Line<'_>]) -> anyhow::Result<()> {
         for part in lines.chunk_by(|_, next| !next.begins_row()) {
             match part.split_first() {
                 Some((first, rest)) if first.begins_row() => self.play_row(rule, first, rest)?,
@@ -160,9 +151,7 @@ impl<P: Print + AllocGlobal> Run<'_, P> {
                 self.play_without_rule(rest)
             }
             Some(Verb::Make(making)) => self.play_rule(making, first, rest),
-            Some(Verb::Ask(_) | Verb::Roll | Verb::Open | Verb::Place | Verb::Call(_)) | None => {
-                self.play_without_rule(part)
-            }
+            _ => self.play_without_rule(part),
         }
     }
 }

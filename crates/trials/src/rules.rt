@@ -1,7 +1,7 @@
 use crate::line::{Making, Question};
 use crate::said::Said;
 use crate::words::{decode, mask, number};
-use sets::Node;
+use sets::{Node, NodeSet};
 use std::alloc::{AllocError, Global};
 use text::reading::read_statement;
 use trust::family::Family;
@@ -20,7 +20,7 @@ pub enum Rule {
 }
 
 // A rule that may be judged: a statement.
-pub trait Judging {
+pub trait Judging: TrustRule {
     fn judgement(&self) -> Option<Judgement>;
 }
 
@@ -72,9 +72,7 @@ fn listed(fields: &[&str]) -> Option<Result<Rule, Refusal>> {
 }
 
 fn threshold(fields: &[&str]) -> Option<Result<Rule, Refusal>> {
-    let [n, f, q] = fields else {
-        return None;
-    };
+    let [n, f, q] = fields.as_array::<3>()?;
     Some(Threshold::new(number(n)?, number(f)?, number(q)?).map(Rule::Threshold))
 }
 
@@ -115,28 +113,36 @@ pub(crate) fn make(
     })
 }
 
+// A node and a set of nodes, as `NODE MASK`.
+fn node_and_set(fields: &[&str]) -> Option<(Node, NodeSet)> {
+    let [node, set] = fields.as_array::<2>()?;
+    Some((Node(number(node)?), mask(set)?))
+}
+
 // What a rule answers; nothing where the fields have not the form of the question.
-pub(crate) fn ask<R: TrustRule + Judging>(
-    rule: &R,
-    question: Question,
-    fields: &[&str],
-) -> Option<Said> {
-    Some(match (question, fields) {
-        (Question::Judge, []) => rule.judgement().map_or(Said::Missing, Said::Judged),
-        (Question::Size, []) => Said::Size(rule.size()),
-        (Question::Sound, []) => Said::Truth(rule.sound()),
-        (Question::Quorum, [node, set]) => {
-            Said::Truth(rule.holds_quorum(Node(number(node)?), mask(set)?))
+pub(crate) fn ask<R: Judging>(rule: &R, question: Question, fields: &[&str]) -> Option<Said> {
+    match question {
+        Question::Judge => fields
+            .is_empty()
+            .then(|| rule.judgement().map_or(Said::Missing, Said::Judged)),
+        Question::Size => fields.is_empty().then(|| Said::Size(rule.size())),
+        Question::Sound => fields.is_empty().then(|| Said::Truth(rule.sound())),
+        Question::Quorum => {
+            let (node, set) = node_and_set(fields)?;
+            Some(Said::Truth(rule.holds_quorum(node, set)))
         }
-        (Question::Kernel, [node, set]) => {
-            Said::Truth(rule.holds_kernel(Node(number(node)?), mask(set)?))
+        Question::Kernel => {
+            let (node, set) = node_and_set(fields)?;
+            Some(Said::Truth(rule.holds_kernel(node, set)))
         }
-        (Question::Tolerated, [node, set]) => {
-            Said::Truth(rule.tolerated(Node(number(node)?), mask(set)?))
+        Question::Tolerated => {
+            let (node, set) = node_and_set(fields)?;
+            Some(Said::Truth(rule.tolerated(node, set)))
         }
-        (Question::Sort, [faulty]) => {
-            sort(rule, mask(faulty)?).map_or_else(Said::Refused, Said::Sorted)
+        Question::Sort => {
+            let [faulty] = fields.as_array::<1>()?;
+            let sorted = sort(rule, mask(faulty)?);
+            Some(sorted.map_or_else(Said::Refused, Said::Sorted))
         }
-        _ => return None,
-    })
+    }
 }

@@ -2,9 +2,10 @@ use crate::said::Said;
 use crate::words::number;
 use kinds::issue::Issue;
 use kinds::withdrawal::Withdrawal;
+use runs::value::ValueKind;
 
 // A kind of value as a trial file writes it.
-pub trait Written {
+pub trait Written: ValueKind + Copy {
     // All fields 0.
     fn zero() -> Self;
 
