@@ -1,4 +1,4 @@
-use crate::line::{Call, Reading};
+use crate::line::{Call, Reading, RowVerb};
 use crate::said::Said;
 use crate::values::Written;
 use crate::words::{mask, number};
@@ -33,8 +33,7 @@ impl<'r, R: TrustRule, V: Written> Host<'r, R, V> {
         })
     }
 
-    // This and the following answer nothing where the fields have not the form of the step.
-    pub(crate) fn open(&mut self, fields: &[&str]) -> Option<Said> {
+    fn open(&mut self, fields: &[&str]) -> Option<Said> {
         let [slots, faulty, roll] = fields.as_array::<3>()?;
         let roll = roll_of(self.row.as_mut_slice(), roll)?;
         match Panel::open(self.rule, number(slots)?, mask(faulty)?, roll) {
@@ -47,13 +46,13 @@ impl<'r, R: TrustRule, V: Written> Host<'r, R, V> {
     }
 
     // The value at a place of the row.
-    pub(crate) fn place(&self, fields: &[&str]) -> Option<Said> {
+    fn place(&self, fields: &[&str]) -> Option<Said> {
         let [place] = fields.as_array::<1>()?;
-        Some(self.row.get(number::<usize>(place)?)?.said())
+        Some((*self.row.get(number::<usize>(place)?)?).into())
     }
 
     // A call may change the panel and the row.
-    pub(crate) fn call(&mut self, call: Call, fields: &[&str]) -> Option<Said> {
+    fn call(&mut self, call: Call, fields: &[&str]) -> Option<Said> {
         let Some(panel) = &mut self.panel else {
             return Some(Said::Missing);
         };
@@ -81,7 +80,7 @@ impl<'r, R: TrustRule, V: Written> Host<'r, R, V> {
         }))
     }
 
-    pub(crate) fn read(&self, reading: Reading, fields: &[&str]) -> Option<Said> {
+    fn read(&self, reading: Reading, fields: &[&str]) -> Option<Said> {
         let Some(panel) = &self.panel else {
             return Some(Said::Missing);
         };
@@ -105,5 +104,15 @@ impl<'r, R: TrustRule, V: Written> Host<'r, R, V> {
                 })
             }
         })
+    }
+
+    // What is answered; nothing where the fields have not the form of the step.
+    pub(crate) fn answer(&mut self, verb: RowVerb, fields: &[&str]) -> Option<Said> {
+        match verb {
+            RowVerb::Open => self.open(fields),
+            RowVerb::Place => self.place(fields),
+            RowVerb::Call(call) => self.call(call, fields),
+            RowVerb::Read(reading) => self.read(reading, fields),
+        }
     }
 }

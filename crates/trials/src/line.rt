@@ -36,18 +36,23 @@ pub enum Reading {
     Tally,
 }
 
-// What a line asks for, by what must be there for it.
+// What is done with a row.
+#[derive(Clone, Copy)]
+pub enum RowVerb {
+    Open,
+    Place,
+    Call(Call),
+    Read(Reading),
+}
+
+// What a line asks for: questions need a rule, and what is done with a row needs a row.
 #[derive(Clone, Copy)]
 pub enum Verb {
     Case,
     Make(Making),
     Ask(Question),
     Roll,
-    // These need a row.
-    Open,
-    Place,
-    Call(Call),
-    Read(Reading),
+    Row(RowVerb),
 }
 
 // What stands before a step whose answer must not be the one written: it shows that a run sees a wrong answer.
@@ -80,14 +85,14 @@ impl Verb {
             "tolerated" => Verb::Ask(Question::Tolerated),
             "sort" => Verb::Ask(Question::Sort),
             "roll" => Verb::Roll,
-            "open" => Verb::Open,
-            "place" => Verb::Place,
-            "propose" => Verb::Call(Call::Propose),
-            "forge" => Verb::Call(Call::Forge),
-            "hand" => Verb::Call(Call::Hand),
-            "receipt" => Verb::Read(Reading::Receipt),
-            "counts" => Verb::Read(Reading::Counts),
-            "tally" => Verb::Read(Reading::Tally),
+            "open" => Verb::Row(RowVerb::Open),
+            "place" => Verb::Row(RowVerb::Place),
+            "propose" => Verb::Row(RowVerb::Call(Call::Propose)),
+            "forge" => Verb::Row(RowVerb::Call(Call::Forge)),
+            "hand" => Verb::Row(RowVerb::Call(Call::Hand)),
+            "receipt" => Verb::Row(RowVerb::Read(Reading::Receipt)),
+            "counts" => Verb::Row(RowVerb::Read(Reading::Counts)),
+            "tally" => Verb::Row(RowVerb::Read(Reading::Tally)),
             _ => return None,
         })
     }

@@ -38,7 +38,8 @@ impl<P: Print + AllocGlobal> Run<'_, P> {
         self.score.note(self.rt, line, said)
     }
 
-    // Plays lines by what a verb with its fields is answered: nothing where they cannot be read.
+    // Plays lines by what a verb with its fields is answered, which is nothing where they cannot be read.
+    // A roll among them has no rule: it gives no row, and has no answer.
     fn play_lines<F: FnMut(Verb, &[&str]) -> Option<Said>>(
         &mut self,
         lines: &[Line<'_>],
@@ -60,9 +61,7 @@ impl<P: Print + AllocGlobal> Run<'_, P> {
 
     fn play_without_rule(&mut self, lines: &[Line<'_>]) -> anyhow::Result<()> {
         self.play_lines(lines, |verb, _| match verb {
-            Verb::Ask(_) | Verb::Open | Verb::Place | Verb::Call(_) | Verb::Read(_) => {
-                Some(Said::Missing)
-            }
+            Verb::Ask(_) | Verb::Row(_) => Some(Said::Missing),
             Verb::Case | Verb::Make(_) | Verb::Roll => None,
         })
     }
@@ -70,7 +69,7 @@ impl<P: Print + AllocGlobal> Run<'_, P> {
     fn play_without_row<R: Judging>(&mut self, rule: &R, lines: &[Line<'_>]) -> anyhow::Result<()> {
         self.play_lines(lines, |verb, fields| match verb {
             Verb::Ask(question) => ask(rule, question, fields),
-            Verb::Open | Verb::Place | Verb::Call(_) | Verb::Read(_) => Some(Said::Missing),
+            Verb::Row(_) => Some(Said::Missing),
             Verb::Case | Verb::Make(_) | Verb::Roll => None,
         })
     }
@@ -84,10 +83,7 @@ impl<P: Print + AllocGlobal> Run<'_, P> {
         let mut host = Host::<R, V>::new(self.rt.alloc(), rule, length)?;
         self.play_lines(lines, |verb, fields| match verb {
             Verb::Ask(question) => ask(rule, question, fields),
-            Verb::Open => host.open(fields),
-            Verb::Place => host.place(fields),
-            Verb::Call(call) => host.call(call, fields),
-            Verb::Read(reading) => host.read(reading, fields),
+            Verb::Row(verb) => host.answer(verb, fields),
             Verb::Case | Verb::Make(_) | Verb::Roll => None,
         })
     }
@@ -151,7 +147,7 @@ impl<P: Print + AllocGlobal> Run<'_, P> {
                 self.play_without_rule(rest)
             }
             Some(Verb::Make(making)) => self.play_rule(making, first, rest),
-            _ => self.play_without_rule(part),
+            Some(Verb::Ask(_) | Verb::Roll | Verb::Row(_)) | None => self.play_without_rule(part),
         }
     }
 }

@@ -36,6 +36,18 @@ pub enum Said {
     Withdrawal(Withdrawal),
 }
 
+impl From<Issue> for Said {
+    fn from(issue: Issue) -> Said {
+        Said::Issue(issue)
+    }
+}
+
+impl From<Withdrawal> for Said {
+    fn from(withdrawal: Withdrawal) -> Said {
+        Said::Withdrawal(withdrawal)
+    }
+}
+
 // A refusal as it is written.
 #[derive(Clone, Copy)]
 struct Refused(Refusal);

@@ -5,13 +5,11 @@ use kinds::withdrawal::Withdrawal;
 use runs::value::ValueKind;
 
 // A kind of value as a trial file writes it.
-pub trait Written: ValueKind + Copy {
+pub trait Written: ValueKind + Copy + Into<Said> {
     // All fields 0.
     fn zero() -> Self;
 
     fn read(word: &str) -> Option<Self>;
-
-    fn said(&self) -> Said;
 }
 
 impl Written for Issue {
@@ -39,10 +37,6 @@ impl Written for Issue {
         };
         fields.next().is_none().then_some(issue)
     }
-
-    fn said(&self) -> Said {
-        Said::Issue(*self)
-    }
 }
 
 impl Written for Withdrawal {
@@ -54,9 +48,5 @@ impl Written for Withdrawal {
         Some(Withdrawal {
             serial: number(word)?,
         })
-    }
-
-    fn said(&self) -> Said {
-        Said::Withdrawal(*self)
     }
 }
