@@ -91,6 +91,13 @@ fn word(answer: Answer) -> &'static str {
     }
 }
 
+fn print_answers(rt: &impl Print, log: &[Entry<Issue>]) -> anyhow::Result<()> {
+    for entry in log {
+        println!(rt; "{}", word(entry.answer))?;
+    }
+    Ok(())
+}
+
 // How many calls of a list were not refused.
 fn accepted(log: &[Entry<Issue>]) -> usize {
     log.iter()
@@ -173,9 +180,7 @@ fn play<R: TrustRule>(rt: &(impl Print + AllocGlobal), rule: &R) -> anyhow::Resu
     let mut host = Host::open(rule)?;
     let mut log = calls();
     host.run(&mut log);
-    for entry in log {
-        println!(rt; "{}", word(entry.answer))?;
-    }
+    print_answers(rt, &log)?;
     host.hand_over(rt)?;
     let sorted = sort(rule, FAULTY)
         .ok()

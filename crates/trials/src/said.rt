@@ -138,8 +138,11 @@ struct Fields(Issue);
 impl fmt::Display for Fields {
     fn fmt<W: fmt::Write>(&self, f: &mut fmt::Formatter<W>) -> fmt::Result {
         let i = self.0;
-        write!(f, "{},{},{},", i.account, i.device, i.request)?;
-        write!(f, "{},{},{}", i.key_print, i.start, i.end)
+        write!(
+            f,
+            "{},{},{},{},{},{}",
+            i.account, i.device, i.request, i.key_print, i.start, i.end
+        )
     }
 }
 

@@ -43,8 +43,7 @@ fn unescaped(byte: u8, rest: &mut Bytes<'_>) -> Option<u8>
         b'_' => Some(b'\t'),
         b'/' => Some(b'\n'),
         b'%' => Some(hex(rest.next()?)? << 4 | hex(rest.next()?)?),
-        b'0'..=b'9' | b'A'..=b'Z' | b'a'..=b'z' => Some(byte),
-        _ => None,
+        _ => byte.is_ascii_alphanumeric().then_some(byte),
     }
 }
 
