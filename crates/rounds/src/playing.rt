@@ -60,7 +60,7 @@ impl<R: TrustRule> Round<'_, R> {
         }
     }
 
-    // A hand from that node to every node.
+    // A hand from that node to every node. Its loop is no part of a chain over pairs: that was tried, and took half as long again.
     fn hand_from(&mut self, kind: u32, slot: u32, from: u32) {
         for to in 1..=NODES {
             self.totals.add_call(self.panel.hand(kind, slot, from, to));

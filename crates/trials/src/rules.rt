@@ -87,12 +87,7 @@ fn read(heap: Global, fields: &[&str]) -> Result<Result<Rule, Said>, AllocError>
     let mut statement = Statement::fresh();
     Ok(match read_statement(bytes.as_slice(), &mut statement) {
         Ok(()) => Ok(Rule::Listed(statement)),
-        Err(fault) => Err(Said::Fault {
-            refusal: fault.refusal,
-            line: fault.line,
-            at: fault.at,
-            length: fault.part.len(),
-        }),
+        Err(fault) => Err(fault.into()),
     })
 }
 

@@ -4,6 +4,7 @@ use protocol::message::Place;
 use protocol::record::Heard;
 use runs::call::{Answer, Counts};
 use std::fmt;
+use text::reading::Fault;
 use trust::judging::{Judgement, NodeVerdict, PairVerdict};
 use trust::refusal::Refusal;
 use trust::sorting::Sorted;
@@ -34,6 +35,17 @@ pub enum Said {
     Tally(u32, u32),
     Issue(Issue),
     Withdrawal(Withdrawal),
+}
+
+impl From<Fault<'_>> for Said {
+    fn from(fault: Fault<'_>) -> Said {
+        Said::Fault {
+            refusal: fault.refusal,
+            line: fault.line,
+            at: fault.at,
+            length: fault.part.len(),
+        }
+    }
 }
 
 impl From<Issue> for Said {
