@@ -1,6 +1,6 @@
 #![tactic(auto)]
 
-use anyhow::anyhow;
+use anyhow::Context;
 use kinds::issue::Issue;
 use panel::panel::Panel;
 use protocol::record::Heard;
@@ -16,7 +16,9 @@ use trust::statement::Statement;
 const TEXT: &[u8] =
     b"N\t5\nF\t1\t0018\nF\t2\t0018\nF\t3\t0018\nF\t4\t0001\nF\t4\t0010\nF\t5\t0002\nF\t5\t0008\n";
 
-const FAULTY: u16 = 0x0008;
+const NODES: u32 = 5;
+
+const FAULTY: NodeSet = NodeSet(0x0008);
 
 const SLOTS: u32 = 2;
 
@@ -34,42 +36,45 @@ fn renewal(key_print: u64) -> Issue {
     }
 }
 
-fn propose(slot: u32, value: Issue) -> Entry<Issue> {
+// A call of a list, with the answer that stands there until it is made.
+fn entry(call: Call<Issue>) -> Entry<Issue> {
     Entry {
-        call: Call::Propose { slot, value },
+        call,
         answer: Answer::Already,
     }
+}
+
+fn propose(slot: u32, value: Issue) -> Entry<Issue> {
+    entry(Call::Propose { slot, value })
 }
 
 // Node 4 lies to another node.
 fn lie(kind: u32, slot: u32, to: u32, value: Issue) -> Entry<Issue> {
-    Entry {
-        call: Call::Forge {
-            kind,
-            slot,
-            from: 4,
-            to,
-            value,
-        },
-        answer: Answer::Already,
-    }
+    entry(Call::Forge {
+        kind,
+        slot,
+        from: 4,
+        to,
+        value,
+    })
+}
+
+fn hand(kind: u32, slot: u32, from: u32, to: u32) -> Entry<Issue> {
+    entry(Call::Hand {
+        kind,
+        slot,
+        from,
+        to,
+    })
 }
 
 // A hand of every message that there could be: by slot, kind, sender and receiver.
 fn hands(heap: Global) -> Result<Vec<Entry<Issue>>, AllocError> {
-    let mut list = Vec::new(heap);
-    for m in 0..SLOTS * 75 {
-        list.push(Entry {
-            call: Call::Hand {
-                kind: m / 25 % 3 + 1,
-                slot: m / 75,
-                from: m / 5 % 5 + 1,
-                to: m % 5 + 1,
-            },
-            answer: Answer::Already,
-        })?;
-    }
-    Ok(list)
+    (0..SLOTS)
+        .flat_map(|slot| (1..=3).map(move |kind| (slot, kind)))
+        .flat_map(|(slot, kind)| (1..=NODES).map(move |from| (slot, kind, from)))
+        .flat_map(|(slot, kind, from)| (1..=NODES).map(move |to| hand(kind, slot, from, to)))
+        .collect(heap)
 }
 
 fn word(answer: Answer) -> &'static str {
@@ -86,75 +91,81 @@ fn word(answer: Answer) -> &'static str {
     }
 }
 
+fn print_answers(rt: &impl Print, log: &[Entry<Issue>]) -> anyhow::Result<()> {
+    for entry in log {
+        println!(rt; "{}", word(entry.answer))?;
+    }
+    Ok(())
+}
+
 // How many calls of a list were not refused.
 fn accepted(log: &[Entry<Issue>]) -> usize {
-    let mut n = 0usize;
-    for entry in log {
-        if let Answer::Refused(_) = entry.answer {
-            continue;
-        }
-        n = n.saturating_add(1);
-    }
-    n
+    log.iter()
+        .filter(|entry| !matches!(entry.answer, Answer::Refused(_)))
+        .count()
 }
 
-// Nothing waits in any slot.
-fn is_quiet<R: TrustRule>(panel: &Panel<'_, R>) -> bool {
-    for slot in 0..SLOTS {
-        match panel.counts(slot) {
-            Ok(counts) if counts.waiting == 0 => {}
-            _ => return false,
-        }
-    }
-    true
+// A host of one panel, with the roll that it keeps for it.
+#[derive(Drop)]
+struct Host<'r, R> {
+    panel: Panel<'r, R>,
+    roll: [Issue; 8],
 }
 
-// Plays hands of everything, round by round, until nothing waits.
-fn hand_over<R: TrustRule>(
-    rt: &HostRuntime,
-    panel: &mut Panel<'_, R>,
-    roll: &mut [Issue],
-) -> anyhow::Result<()> {
-    for round in 1..20u32 {
-        if is_quiet(panel) {
-            println!(rt; "nothing waits")?;
-            return Ok(());
-        }
-        let mut list = hands(rt.alloc())?;
-        panel.run(roll, list.as_mut_slice());
-        let n = accepted(list.as_slice());
-        println!(rt; "round {round}: {n} messages handed over")?;
+impl<'r, R: TrustRule> Host<'r, R> {
+    fn open(rule: &'r R) -> anyhow::Result<Host<'r, R>> {
+        let roll = [renewal(0); 8];
+        let panel = Panel::open(rule, SLOTS, FAULTY, &roll)
+            .ok()
+            .context("the panel does not open")?;
+        Ok(Host { panel, roll })
     }
-    Ok(())
+
+    fn run(&mut self, log: &mut [Entry<Issue>]) {
+        self.panel.run(&mut self.roll, log);
+    }
+
+    // Nothing waits in any slot.
+    fn is_quiet(&self) -> bool {
+        (0..SLOTS).all(|slot| {
+            self.panel
+                .counts(slot)
+                .is_ok_and(|counts| counts.waiting == 0)
+        })
+    }
+
+    // Plays hands of everything, round by round, until nothing waits.
+    fn hand_over(&mut self, rt: &(impl Print + AllocGlobal)) -> anyhow::Result<()> {
+        for round in 1..20u32 {
+            if self.is_quiet() {
+                println!(rt; "nothing waits")?;
+                return Ok(());
+            }
+            let mut list = hands(rt.alloc())?;
+            self.run(list.as_mut_slice());
+            let n = accepted(list.as_slice());
+            println!(rt; "round {round}: {n} messages handed over")?;
+        }
+        Ok(())
+    }
+
+    // What a guild node delivered in each slot, and what it charges.
+    fn print_node(&self, rt: &impl Print, node: u32) -> anyhow::Result<()> {
+        for slot in 0..SLOTS {
+            if let Ok(Some(place)) = self.panel.receipt(slot, node) {
+                println!(rt; "node {node} slot {slot}: delivered place {}", place.0)?;
+            }
+        }
+        if let Ok((counted, left_out)) = self.panel.tally(&self.roll, node, ACCOUNT) {
+            println!(rt; "node {node}: {counted} counted, {left_out} left out")?;
+        }
+        Ok(())
+    }
 }
 
-// What a guild node delivered in each slot, and what it charges.
-fn print_node<R: TrustRule>(
-    rt: &HostRuntime,
-    panel: &Panel<'_, R>,
-    roll: &[Issue],
-    node: u32,
-) -> anyhow::Result<()> {
-    for slot in 0..SLOTS {
-        if let Ok(Some(place)) = panel.receipt(slot, node) {
-            let at = place.0;
-            println!(rt; "node {node} slot {slot}: delivered place {at}")?;
-        }
-    }
-    if let Ok((counted, left_out)) = panel.tally(roll, node, ACCOUNT) {
-        println!(rt; "node {node}: {counted} counted, {left_out} left out")?;
-    }
-    Ok(())
-}
-
-fn play<R: TrustRule>(rt: &HostRuntime, rule: &R) -> anyhow::Result<()> {
-    let faulty = NodeSet(FAULTY);
-    let mut roll = [renewal(0); 8];
-    let Ok(panel) = Panel::open(rule, SLOTS, faulty, &roll) else {
-        return Err(anyhow!("the panel does not open"));
-    };
-    let mut panel = panel;
-    let mut log = [
+// The calls of the run: two proposals of one renewal under two keys, and the lies.
+fn calls() -> [Entry<Issue>; 7] {
+    [
         propose(0, renewal(1)),
         propose(1, renewal(2)),
         lie(2, 0, 1, renewal(9)),
@@ -162,27 +173,28 @@ fn play<R: TrustRule>(rt: &HostRuntime, rule: &R) -> anyhow::Result<()> {
         lie(2, 1, 3, renewal(1)),
         lie(2, 1, 3, renewal(2)),
         lie(1, 1, 5, renewal(9)),
-    ];
-    panel.run(&mut roll, &mut log);
-    for entry in log.iter() {
-        println!(rt; "{}", word(entry.answer))?;
-    }
-    hand_over(rt, &mut panel, &mut roll)?;
-    let Ok(sorted) = sort(rule, faulty) else {
-        return Err(anyhow!("the faulty mask does not fit"));
-    };
-    for node in 1..6u32 {
-        if sorted.guild.has(Node(node)) {
-            print_node(rt, &panel, &roll, node)?;
-        }
+    ]
+}
+
+fn play<R: TrustRule>(rt: &(impl Print + AllocGlobal), rule: &R) -> anyhow::Result<()> {
+    let mut host = Host::open(rule)?;
+    let mut log = calls();
+    host.run(&mut log);
+    print_answers(rt, &log)?;
+    host.hand_over(rt)?;
+    let sorted = sort(rule, FAULTY)
+        .ok()
+        .context("the faulty mask does not fit")?;
+    for node in (1..=NODES).filter(|node| sorted.guild.has(Node(*node))) {
+        host.print_node(rt, node)?;
     }
     Ok(())
 }
 
 fn main(rt: HostRuntime) -> anyhow::Result<()> {
     let mut statement = Statement::fresh();
-    if read_statement(TEXT, &mut statement).is_err() {
-        return Err(anyhow!("the statement is refused"));
-    }
+    read_statement(TEXT, &mut statement)
+        .ok()
+        .context("the statement is refused")?;
     play(&rt, &statement)
 }

@@ -1,9 +1,6 @@
-ghost use Rattle.std.specs.Prelude.{ℕ, ◌+◌, ◌*◌, ◌^◌, ◌<◌, ◌≤◌};
-
 use crate::totals::Totals;
 use kinds::withdrawal::Withdrawal;
 use panel::panel::Panel;
-use runs::value::ValueKind;
 use sets::NodeSet;
 use trust::rule::TrustRule;
 
@@ -14,6 +11,12 @@ const NODES: u32 = 16;
 
 const SLOTS: u32 = 16;
 
+const SEND: u32 = 1;
+
+const ECHO: u32 = 2;
+
+const READY: u32 = 3;
+
 // The withdrawal of an account with that low part of its serial.
 fn withdrawal(account: u16, low: u32) -> Withdrawal {
     Withdrawal {
@@ -21,85 +24,106 @@ fn withdrawal(account: u16, low: u32) -> Withdrawal {
     }
 }
 
-fn propose_all<R: TrustRule>(
-    panel: &mut Panel<'_, R>,
-    roll: &mut [Withdrawal],
+// A panel, the roll that its host keeps, the account of all values, and what came of this round and of those before.
+#[derive(Drop)]
+struct Round<'r, R> {
+    panel: Panel<'r, R>,
+    roll: [Withdrawal; 16],
     account: u16,
-    totals: &mut Totals,
-) {
-    for slot in 0..SLOTS - 1 {
-        totals.add_call(panel.propose(roll, slot, withdrawal(account, slot + 1)));
-    }
+    totals: Totals,
 }
 
-// In every slot an ECHO and then a READY of the first value, from node 16 to every other node.
-fn forge_all<R: TrustRule>(
-    panel: &mut Panel<'_, R>,
-    roll: &mut [Withdrawal],
-    account: u16,
-    totals: &mut Totals,
-) {
-    for m in 0..SLOTS * 30 {
-        let kind = m / 15 % 2 + 2;
-        let value = withdrawal(account, 1);
-        totals.add_call(panel.forge(roll, kind, m / 30, 16, m % 15 + 1, value));
-    }
-}
-
-// A hand from every node to every node.
-fn hand_between<R: TrustRule>(panel: &mut Panel<'_, R>, kind: u32, slot: u32, totals: &mut Totals) {
-    for m in 0..NODES * NODES {
-        totals.add_call(panel.hand(kind, slot, m / NODES + 1, m % NODES + 1));
-    }
-}
-
-fn hand_all<R: TrustRule>(panel: &mut Panel<'_, R>, totals: &mut Totals) {
-    for m in 0..SLOTS * 3 {
-        hand_between(panel, m % 3 + 1, m / 3, totals);
-    }
-}
-
-fn read_counts<R: TrustRule>(panel: &Panel<'_, R>, totals: &mut Totals) {
-    for slot in 0..SLOTS {
-        if let Ok(counts) = panel.counts(slot) {
-            totals.add_counts(counts);
+impl<R: TrustRule> Round<'_, R> {
+    fn propose_all(&mut self) {
+        for slot in 0..SLOTS - 1 {
+            let value = withdrawal(self.account, slot + 1);
+            let answer = self.panel.propose(&mut self.roll, slot, value);
+            self.totals.add_call(answer);
         }
     }
-}
 
-fn read_receipts<R: TrustRule>(panel: &Panel<'_, R>, totals: &mut Totals) {
-    for m in 0..SLOTS * NODES {
-        if let Ok(Some(_)) = panel.receipt(m / NODES, m % NODES + 1) {
-            totals.add_delivery();
+    // The first value from node 16 to every other node.
+    fn forge(&mut self, kind: u32, slot: u32) {
+        let value = withdrawal(self.account, 1);
+        for to in 1..NODES {
+            let roll = &mut self.roll;
+            let answer = self.panel.forge(roll, kind, slot, NODES, to, value);
+            self.totals.add_call(answer);
         }
     }
-}
 
-fn read_tallies<R: TrustRule>(
-    panel: &Panel<'_, R>,
-    roll: &[Withdrawal],
-    account: u16,
-    totals: &mut Totals,
-) {
-    for k in 0..NODES {
-        if let Ok((counted, left_out)) = panel.tally(roll, k + 1, account) {
-            totals.add_tally(counted, left_out);
+    // In every slot an ECHO and then a READY.
+    fn forge_all(&mut self) {
+        let kinds = (0..SLOTS).flat_map(|slot| (ECHO..=READY).map(move |kind| (slot, kind)));
+        for (slot, kind) in kinds {
+            self.forge(kind, slot);
+        }
+    }
+
+    // A hand from that node to every node. Its loop is no part of a chain over pairs: that was tried, and took half as long again.
+    fn hand_from(&mut self, kind: u32, slot: u32, from: u32) {
+        for to in 1..=NODES {
+            self.totals.add_call(self.panel.hand(kind, slot, from, to));
+        }
+    }
+
+    // A hand from every node to every node.
+    fn hand(&mut self, kind: u32, slot: u32) {
+        for from in 1..=NODES {
+            self.hand_from(kind, slot, from);
+        }
+    }
+
+    fn hand_all(&mut self) {
+        let kinds = (0..SLOTS).flat_map(|slot| (SEND..=READY).map(move |kind| (slot, kind)));
+        for (slot, kind) in kinds {
+            self.hand(kind, slot);
+        }
+    }
+
+    fn read_counts(&mut self) {
+        for slot in 0..SLOTS {
+            if let Ok(counts) = self.panel.counts(slot) {
+                self.totals.add_counts(counts);
+            }
+        }
+    }
+
+    fn read_receipts(&mut self) {
+        let nodes = (0..SLOTS).flat_map(|slot| (1..=NODES).map(move |node| (slot, node)));
+        for (slot, node) in nodes {
+            if let Ok(Some(_)) = self.panel.receipt(slot, node) {
+                self.totals.add_delivery();
+            }
+        }
+    }
+
+    fn read_tallies(&mut self) {
+        for node in 1..=NODES {
+            if let Ok((counted, left_out)) = self.panel.tally(&self.roll, node, self.account) {
+                self.totals.add_tally(counted, left_out);
+            }
         }
     }
 }
 
 // One round: every call once, in slots of which all but one have a proposal, while node 16 lies.
-pub(crate) fn play<R: TrustRule>(rule: &R, number: u64, totals: &mut Totals) {
-    let account = (number % 1000 + 1) as u16;
-    let mut roll = [Withdrawal { serial: 0 }; 16];
+pub(crate) fn play<R: TrustRule>(rule: &R, number: u64, totals: Totals) -> Totals {
+    let roll = [Withdrawal { serial: 0 }; 16];
     let Ok(panel) = Panel::open(rule, SLOTS, FAULTY, &roll) else {
-        return;
+        return totals;
     };
-    let mut panel = panel;
-    propose_all(&mut panel, &mut roll, account, totals);
-    forge_all(&mut panel, &mut roll, account, totals);
-    hand_all(&mut panel, totals);
-    read_counts(&panel, totals);
-    read_receipts(&panel, totals);
-    read_tallies(&panel, &roll, account, totals);
+    let mut round = Round {
+        panel,
+        roll,
+        account: (number % 1000 + 1) as u16,
+        totals,
+    };
+    round.propose_all();
+    round.forge_all();
+    round.hand_all();
+    round.read_counts();
+    round.read_receipts();
+    round.read_tallies();
+    round.totals
 }

@@ -2,7 +2,7 @@ use runs::call::{Answer, Counts};
 use std::fmt;
 
 // What came of all rounds: calls by their answer, and sums over the readings. A sum wraps.
-#[derive(Clone, Copy)]
+#[derive(Clone, Copy, Default)]
 pub struct Totals {
     accepted: u64,
     refused: u64,
@@ -14,18 +14,6 @@ pub struct Totals {
 }
 
 impl Totals {
-    pub(crate) fn none() -> Totals {
-        Totals {
-            accepted: 0,
-            refused: 0,
-            heard: 0,
-            waiting: 0,
-            delivered: 0,
-            counted: 0,
-            left_out: 0,
-        }
-    }
-
     pub(crate) fn add_call(&mut self, answer: Answer) {
         match answer {
             Answer::Refused(_) => self.refused = self.refused.wrapping_add(1),
@@ -50,18 +38,15 @@ impl Totals {
 
 impl fmt::Display for Totals {
     fn fmt<W: fmt::Write>(&self, f: &mut fmt::Formatter<W>) -> fmt::Result {
-        let accepted = self.accepted;
-        let refused = self.refused;
-        let heard = self.heard;
-        let waiting = self.waiting;
-        writeln!(f, "accepted {accepted}\nrefused {refused}")?;
-        writeln!(f, "heard {heard}\nwaiting {waiting}")?;
-        let delivered = self.delivered;
-        let counted = self.counted;
-        let left_out = self.left_out;
         writeln!(
             f,
-            "delivered {delivered}\ncounted {counted}\nleft out {left_out}"
+            "accepted {}\nrefused {}\nheard {}\nwaiting {}",
+            self.accepted, self.refused, self.heard, self.waiting
+        )?;
+        writeln!(
+            f,
+            "delivered {}\ncounted {}\nleft out {}",
+            self.delivered, self.counted, self.left_out
         )
     }
 }

@@ -1,15 +1,16 @@
-ghost use Rattle.std.specs.Prelude.{ℕ, ◌+◌, ◌<◌, ◌≤◌, length};
-
 use std::alloc::{AllocError, Global};
 
-// What a line asks for.
+// What makes a rule.
 #[derive(Clone, Copy)]
-pub enum Verb {
-    Case,
+pub enum Making {
     Text,
     Lists,
     Threshold,
-    Roll,
+}
+
+// What a rule is asked.
+#[derive(Clone, Copy)]
+pub enum Question {
     Judge,
     Size,
     Sound,
@@ -17,54 +18,41 @@ pub enum Verb {
     Kernel,
     Tolerated,
     Sort,
-    Open,
+}
+
+// A call of an open panel.
+#[derive(Clone, Copy)]
+pub enum Call {
     Propose,
     Forge,
     Hand,
+}
+
+// A reading of an open panel.
+#[derive(Clone, Copy)]
+pub enum Reading {
     Receipt,
     Counts,
     Tally,
+}
+
+// What is done with a row.
+#[derive(Clone, Copy)]
+pub enum RowVerb {
+    Open,
     Place,
-    // No such word.
-    Unknown,
+    Call(Call),
+    Read(Reading),
 }
 
-const VERBS: [(&str, Verb); 20] = [
-    ("case", Verb::Case),
-    ("text", Verb::Text),
-    ("lists", Verb::Lists),
-    ("threshold", Verb::Threshold),
-    ("roll", Verb::Roll),
-    ("judge", Verb::Judge),
-    ("size", Verb::Size),
-    ("sound", Verb::Sound),
-    ("quorum", Verb::Quorum),
-    ("kernel", Verb::Kernel),
-    ("tolerated", Verb::Tolerated),
-    ("sort", Verb::Sort),
-    ("open", Verb::Open),
-    ("propose", Verb::Propose),
-    ("forge", Verb::Forge),
-    ("hand", Verb::Hand),
-    ("receipt", Verb::Receipt),
-    ("counts", Verb::Counts),
-    ("tally", Verb::Tally),
-    ("place", Verb::Place),
-];
-
-// What must be there for a line to be played.
+// What a line asks for: questions need a rule, and what is done with a row needs a row.
 #[derive(Clone, Copy)]
-pub enum Needs {
-    Nothing,
-    Rule,
-    Row,
-}
-
-// A file is cut into parts of which each has one rule, and such a part into parts of which each has one row.
-#[derive(Clone, Copy)]
-pub enum Part {
-    OfRule,
-    OfRow,
+pub enum Verb {
+    Case,
+    Make(Making),
+    Ask(Question),
+    Roll,
+    Row(RowVerb),
 }
 
 // What stands before a step whose answer must not be the one written: it shows that a run sees a wrong answer.
@@ -76,63 +64,42 @@ pub struct Line<'t> {
     pub number: usize,
     // UNLIKE, or nothing.
     pub mark: &'t str,
-    pub verb: Verb,
+    // None where the line cannot be read.
+    pub verb: Option<Verb>,
     pub step: &'t str,
     pub expected: &'t str,
 }
 
 impl Verb {
-    fn from_word(word: &str) -> Verb {
-        for (name, verb) in VERBS {
-            if name == word {
-                return verb;
-            }
-        }
-        Verb::Unknown
+    fn from_word(word: &str) -> Option<Verb> {
+        Some(match word {
+            "case" => Verb::Case,
+            "text" => Verb::Make(Making::Text),
+            "lists" => Verb::Make(Making::Lists),
+            "threshold" => Verb::Make(Making::Threshold),
+            "judge" => Verb::Ask(Question::Judge),
+            "size" => Verb::Ask(Question::Size),
+            "sound" => Verb::Ask(Question::Sound),
+            "quorum" => Verb::Ask(Question::Quorum),
+            "kernel" => Verb::Ask(Question::Kernel),
+            "tolerated" => Verb::Ask(Question::Tolerated),
+            "sort" => Verb::Ask(Question::Sort),
+            "roll" => Verb::Roll,
+            "open" => Verb::Row(RowVerb::Open),
+            "place" => Verb::Row(RowVerb::Place),
+            "propose" => Verb::Row(RowVerb::Call(Call::Propose)),
+            "forge" => Verb::Row(RowVerb::Call(Call::Forge)),
+            "hand" => Verb::Row(RowVerb::Call(Call::Hand)),
+            "receipt" => Verb::Row(RowVerb::Read(Reading::Receipt)),
+            "counts" => Verb::Row(RowVerb::Read(Reading::Counts)),
+            "tally" => Verb::Row(RowVerb::Read(Reading::Tally)),
+            _ => return None,
+        })
     }
 
-    // Only a case and a roll are not answered.
-    fn unanswered(self) -> Verb {
-        match self {
-            Verb::Case | Verb::Roll => self,
-            _ => Verb::Unknown,
-        }
-    }
-
-    pub(crate) fn needs(self) -> Needs {
-        match self {
-            Verb::Judge
-            | Verb::Size
-            | Verb::Sound
-            | Verb::Quorum
-            | Verb::Kernel
-            | Verb::Tolerated
-            | Verb::Sort => Needs::Rule,
-            Verb::Open
-            | Verb::Propose
-            | Verb::Forge
-            | Verb::Hand
-            | Verb::Receipt
-            | Verb::Counts
-            | Verb::Tally
-            | Verb::Place => Needs::Row,
-            _ => Needs::Nothing,
-        }
-    }
-
-    fn begins(self, part: Part) -> bool {
-        match (part, self) {
-            (Part::OfRule, Verb::Case | Verb::Text | Verb::Lists | Verb::Threshold) => true,
-            (Part::OfRow, Verb::Roll) => true,
-            _ => false,
-        }
-    }
-}
-
-fn verb_of(step: &str) -> Verb {
-    match step.split_once(' ') {
-        Some((word, _)) => Verb::from_word(word),
-        None => Verb::from_word(step),
+    // The verb of a step is its first field.
+    fn of_step(step: &str) -> Option<Verb> {
+        Verb::from_word(step.split_once(' ').map_or(step, |(word, _)| word))
     }
 }
 
@@ -144,19 +111,20 @@ impl<'t> Line<'t> {
         }
     }
 
+    // Only a case and a roll stand without an answer.
     fn marked(number: usize, mark: &'t str, text: &'t str) -> Line<'t> {
         match text.split_once(" => ") {
             Some((step, expected)) => Line {
                 number,
                 mark,
-                verb: verb_of(step),
+                verb: Verb::of_step(step),
                 step,
                 expected,
             },
             None => Line {
                 number,
                 mark,
-                verb: verb_of(text).unanswered(),
+                verb: Verb::of_step(text).filter(|verb| matches!(verb, Verb::Case | Verb::Roll)),
                 step: text,
                 expected: "",
             },
@@ -167,28 +135,23 @@ impl<'t> Line<'t> {
     pub(crate) fn fields(&self, heap: Global) -> Result<Vec<&'t str>, AllocError> {
         self.step.split(' ').skip(1).collect(heap)
     }
+
+    // A file is cut into parts of which each has at most one rule, which its first line gives.
+    pub(crate) fn begins_rule(&self) -> bool {
+        matches!(self.verb, Some(Verb::Case | Verb::Make(_)))
+    }
+
+    // Such a part is cut into parts of which each has at most one row, which its first line gives.
+    pub(crate) fn begins_row(&self) -> bool {
+        matches!(self.verb, Some(Verb::Roll))
+    }
 }
 
 // The lines of a file that are neither empty nor remarks.
 pub(crate) fn lines_of(heap: Global, file: &str) -> Result<Vec<Line<'_>>, AllocError> {
-    let mut lines = Vec::new(heap);
-    for (i, text) in file.split('\n').enumerate() {
-        if !text.is_empty() && !text.starts_with('#') {
-            lines.push(Line::new(i.saturating_add(1), text))?;
-        }
-    }
-    Ok(lines)
-}
-
-// Where the part ends that begins at a line: at the next line that begins one, or with the last line.
-pub(crate) fn end_of_part(lines: &[Line<'_>], from: usize, part: Part) -> usize
-    requires { from < length lines.now }
-    ensures { (from < result) × (result ≤ length lines.now) }
-{
-    for i in from + 1..lines.len() {
-        if lines[i].verb.begins(part) {
-            return i;
-        }
-    }
-    lines.len()
+    file.split('\n')
+        .enumerate()
+        .filter(|(_, text)| !text.is_empty() && !text.starts_with('#'))
+        .map(|(i, text)| Line::new(i.saturating_add(1), text))
+        .collect(heap)
 }

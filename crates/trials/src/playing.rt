@@ -1,94 +1,14 @@
-ghost use Rattle.std.specs.Prelude.{ℕ, ◌<◌, ◌≤◌};
-
-use crate::calls::call;
-use crate::line::{Line, Needs, Part, Verb, end_of_part};
+use crate::calls::Host;
+use crate::line::{Line, Making, Verb};
 use crate::rules::{Judging, Rule, ask, make};
 use crate::said::Said;
 use crate::score::Score;
 use crate::values::Written;
-use crate::words::small_number;
+use crate::words::number;
 use kinds::issue::Issue;
 use kinds::withdrawal::Withdrawal;
-use runs::value::ValueKind;
-use std::alloc::{AllocError, Global};
-use trust::rule::TrustRule;
 
-// Plays lines that have no rule.
-fn play_without_rule(
-    rt: &HostRuntime,
-    lines: &[Line<'_>],
-    score: &mut Score,
-) -> anyhow::Result<()> {
-    for line in lines {
-        let said = match line.verb.needs() {
-            Needs::Nothing => Said::Unreadable,
-            Needs::Rule | Needs::Row => Said::Missing,
-        };
-        match line.verb {
-            Verb::Roll => {}
-            _ => score.note(rt, line, said)?,
-        }
-    }
-    Ok(())
-}
-
-// Plays lines that have a rule and no row.
-fn play_without_row<R: TrustRule + Judging>(
-    rt: &HostRuntime,
-    rule: &R,
-    lines: &[Line<'_>],
-    score: &mut Score,
-) -> anyhow::Result<()> {
-    for line in lines {
-        let fields = line.fields(rt.alloc())?;
-        let said = match line.verb.needs() {
-            Needs::Nothing => None,
-            Needs::Rule => ask(rule, line.verb, fields.as_slice()),
-            Needs::Row => Some(Said::Missing),
-        };
-        score.note(rt, line, said.unwrap_or(Said::Unreadable))?;
-    }
-    Ok(())
-}
-
-// A row of so many places, with all fields 0.
-fn zeros<V: Written + Drop>(heap: Global, length: u16) -> Result<Vec<V>, AllocError> {
-    let mut row = Vec::new(heap);
-    for _ in 0..length {
-        row.push(V::zero())?;
-    }
-    Ok(row)
-}
-
-// Plays lines that have a rule and a row of so many places.
-fn play_with_row<R: TrustRule + Judging, V: ValueKind + Copy + Written>(
-    rt: &HostRuntime,
-    rule: &R,
-    length: u16,
-    lines: &[Line<'_>],
-    score: &mut Score,
-) -> anyhow::Result<()> {
-    let mut row = zeros::<V>(rt.alloc(), length)?;
-    let mut panel = None;
-    for line in lines {
-        let fields = line.fields(rt.alloc())?;
-        let said = match line.verb.needs() {
-            Needs::Nothing => None,
-            Needs::Rule => ask(rule, line.verb, fields.as_slice()),
-            Needs::Row => call(
-                rule,
-                row.as_mut_slice(),
-                &mut panel,
-                line.verb,
-                fields.as_slice(),
-            ),
-        };
-        score.note(rt, line, said.unwrap_or(Said::Unreadable))?;
-    }
-    Ok(())
-}
-
-// The kinds of value of a row.
+// The kinds of value of a row, with its length.
 #[derive(Clone, Copy)]
 enum RowOf {
     Issues(u16),
@@ -97,10 +17,8 @@ enum RowOf {
 
 // The row of a line `roll KIND LENGTH`.
 fn row_of(fields: &[&str]) -> Option<RowOf> {
-    let [kind, length] = fields else {
-        return None;
-    };
-    let length = small_number(length)?;
+    let [kind, length] = fields.as_array::<2>()?;
+    let length = number(length)?;
     match *kind {
         "issue" => Some(RowOf::Issues(length)),
         "withdrawal" => Some(RowOf::Withdrawals(length)),
@@ -108,103 +26,140 @@ fn row_of(fields: &[&str]) -> Option<RowOf> {
     }
 }
 
-// Plays a part that begins with the line of its row.
-fn play_row<R: TrustRule + Judging>(
-    rt: &HostRuntime,
-    rule: &R,
-    first: &Line<'_>,
-    rest: &[Line<'_>],
-    score: &mut Score,
-) -> anyhow::Result<()> {
-    let fields = first.fields(rt.alloc())?;
-    match row_of(fields.as_slice()) {
-        Some(RowOf::Issues(length)) => play_with_row::<R, Issue>(rt, rule, length, rest, score),
-        Some(RowOf::Withdrawals(length)) => {
-            play_with_row::<R, Withdrawal>(rt, rule, length, rest, score)
+// A run of trials: where it prints what differs, and what came of it so far.
+#[derive(Drop)]
+struct Run<'p, P> {
+    rt: &'p P,
+    score: Score,
+}
+
+impl<P: Print + AllocGlobal> Run<'_, P> {
+    fn note(&mut self, line: &Line<'_>, said: Said) -> anyhow::Result<()> {
+        self.score.note(self.rt, line, said)
+    }
+
+    // Plays lines by what a verb with its fields is answered, which is nothing where they cannot be read.
+    // A roll among them has no rule: it gives no row, and has no answer.
+    fn play_lines<F: FnMut(Verb, &[&str]) -> Option<Said>>(
+        &mut self,
+        lines: &[Line<'_>],
+        mut answer: F,
+    ) -> anyhow::Result<()>
+        requires { F.IsAlwaysCallable answer }
+    {
+        for line in lines {
+            let fields = line.fields(self.rt.alloc())?;
+            let said = match line.verb {
+                Some(Verb::Roll) => continue,
+                Some(verb) => answer(verb, fields.as_slice()),
+                None => None,
+            };
+            self.note(line, said.unwrap_or(Said::Unreadable))?;
         }
-        None => {
-            score.note(rt, first, Said::Unreadable)?;
-            play_without_row(rt, rule, rest, score)
-        }
+        Ok(())
     }
-}
 
-// Plays a part that has at most one row, which its first line then gives.
-fn play_one_row<R: TrustRule + Judging>(
-    rt: &HostRuntime,
-    rule: &R,
-    lines: &[Line<'_>],
-    score: &mut Score,
-) -> anyhow::Result<()> {
-    match lines.split_first() {
-        Some((first, rest)) => match first.verb {
-            Verb::Roll => play_row(rt, rule, first, rest, score),
-            _ => play_without_row(rt, rule, lines, score),
-        },
-        None => Ok(()),
+    fn play_without_rule(&mut self, lines: &[Line<'_>]) -> anyhow::Result<()> {
+        self.play_lines(lines, |verb, _| match verb {
+            Verb::Ask(_) | Verb::Row(_) => Some(Said::Missing),
+            Verb::Case | Verb::Make(_) | Verb::Roll => None,
+        })
     }
-}
 
-// Plays lines that have a rule, row by row.
-fn play_rows<R: TrustRule + Judging>(
-    rt: &HostRuntime,
-    rule: &R,
-    lines: &[Line<'_>],
-    score: &mut Score,
-) -> anyhow::Result<()> {
-    let mut at = 0;
-    while at < lines.len() {
-        let end = end_of_part(lines, at, Part::OfRow);
-        play_one_row(rt, rule, &lines[at..end], score)?;
-        at = end;
+    fn play_without_row<R: Judging>(&mut self, rule: &R, lines: &[Line<'_>]) -> anyhow::Result<()> {
+        self.play_lines(lines, |verb, fields| match verb {
+            Verb::Ask(question) => ask(rule, question, fields),
+            Verb::Row(_) => Some(Said::Missing),
+            Verb::Case | Verb::Make(_) | Verb::Roll => None,
+        })
     }
-    Ok(())
-}
 
-// Plays a part that begins with the line of its rule.
-fn play_rule(
-    rt: &HostRuntime,
-    first: &Line<'_>,
-    rest: &[Line<'_>],
-    score: &mut Score,
-) -> anyhow::Result<()> {
-    let fields = first.fields(rt.alloc())?;
-    let (rule, said) = make(rt.alloc(), first.verb, fields.as_slice())?;
-    score.note(rt, first, said)?;
-    match rule {
-        Rule::None => play_without_rule(rt, rest, score),
-        Rule::Listed(statement) => play_rows(rt, &statement, rest, score),
-        Rule::Threshold(threshold) => play_rows(rt, &threshold, rest, score),
+    fn play_with_row<R: Judging, V: Written>(
+        &mut self,
+        rule: &R,
+        length: u16,
+        lines: &[Line<'_>],
+    ) -> anyhow::Result<()> {
+        let mut host = Host::<R, V>::new(self.rt.alloc(), rule, length)?;
+        self.play_lines(lines, |verb, fields| match verb {
+            Verb::Ask(question) => ask(rule, question, fields),
+            Verb::Row(verb) => host.answer(verb, fields),
+            Verb::Case | Verb::Make(_) | Verb::Roll => None,
+        })
     }
-}
 
-// Plays a part that has at most one rule, which its first line then gives.
-fn play_one_rule(rt: &HostRuntime, lines: &[Line<'_>], score: &mut Score) -> anyhow::Result<()> {
-    match lines.split_first() {
-        Some((first, rest)) => match first.verb {
-            Verb::Case => {
-                score.cases = score.cases.saturating_add(1);
-                play_without_rule(rt, rest, score)
+    // Plays a part that begins with the line of its row.
+    fn play_row<R: Judging>(
+        &mut self,
+        rule: &R,
+        first: &Line<'_>,
+        rest: &[Line<'_>],
+    ) -> anyhow::Result<()> {
+        let fields = first.fields(self.rt.alloc())?;
+        match row_of(fields.as_slice()) {
+            Some(RowOf::Issues(length)) => self.play_with_row::<R, Issue>(rule, length, rest),
+            Some(RowOf::Withdrawals(length)) => {
+                self.play_with_row::<R, Withdrawal>(rule, length, rest)
             }
-            Verb::Text | Verb::Lists | Verb::Threshold => play_rule(rt, first, rest, score),
-            _ => play_without_rule(rt, lines, score),
-        },
-        None => Ok(()),
+            None => {
+                self.note(first, Said::Unreadable)?;
+                self.play_without_row(rule, rest)
+            }
+        }
+    }
+
+    // Plays lines that have a rule, row by row.
+    fn play_rows<R: Judging>(&mut self, rule: &R, lines: &[Line<'_>]) -> anyhow::Result<()> {
+        for part in lines.chunk_by(|_, next| !next.begins_row()) {
+            match part.split_first() {
+                Some((first, rest)) if first.begins_row() => self.play_row(rule, first, rest)?,
+                _ => self.play_without_row(rule, part)?,
+            }
+        }
+        Ok(())
+    }
+
+    // Plays a part that begins with the line of its rule.
+    fn play_rule(
+        &mut self,
+        making: Making,
+        first: &Line<'_>,
+        rest: &[Line<'_>],
+    ) -> anyhow::Result<()> {
+        let fields = first.fields(self.rt.alloc())?;
+        let made = make(self.rt.alloc(), making, fields.as_slice())?;
+        self.note(first, made.err().unwrap_or(Said::Made))?;
+        match made {
+            Ok(Rule::Listed(statement)) => self.play_rows(&statement, rest),
+            Ok(Rule::Threshold(threshold)) => self.play_rows(&threshold, rest),
+            Err(_) => self.play_without_rule(rest),
+        }
+    }
+
+    // Plays a part that has at most one rule, which its first line then gives.
+    fn play_part(&mut self, part: &[Line<'_>]) -> anyhow::Result<()> {
+        let Some((first, rest)) = part.split_first() else {
+            return Ok(());
+        };
+        match first.verb {
+            Some(Verb::Case) => {
+                self.score.add_case();
+                self.play_without_rule(rest)
+            }
+            Some(Verb::Make(making)) => self.play_rule(making, first, rest),
+            Some(Verb::Ask(_) | Verb::Roll | Verb::Row(_)) | None => self.play_without_rule(part),
+        }
     }
 }
 
 // Plays the lines of a file, rule by rule.
-pub(crate) fn play(rt: &HostRuntime, lines: &[Line<'_>]) -> anyhow::Result<Score> {
-    let mut score = Score {
-        cases: 0,
-        answers: 0,
-        differ: 0,
+pub(crate) fn play(rt: &(impl Print + AllocGlobal), lines: &[Line<'_>]) -> anyhow::Result<Score> {
+    let mut run = Run {
+        rt,
+        score: Score::default(),
     };
-    let mut at = 0;
-    while at < lines.len() {
-        let end = end_of_part(lines, at, Part::OfRule);
-        play_one_rule(rt, &lines[at..end], &mut score)?;
-        at = end;
+    for part in lines.chunk_by(|_, next| !next.begins_rule()) {
+        run.play_part(part)?;
     }
-    Ok(score)
+    Ok(run.score)
 }

@@ -4,6 +4,7 @@ use protocol::message::Place;
 use protocol::record::Heard;
 use runs::call::{Answer, Counts};
 use std::fmt;
+use text::reading::Fault;
 use trust::judging::{Judgement, NodeVerdict, PairVerdict};
 use trust::refusal::Refusal;
 use trust::sorting::Sorted;
@@ -36,108 +37,158 @@ pub enum Said {
     Withdrawal(Withdrawal),
 }
 
-// The word for what a node did.
-fn step_word(heard: Heard) -> &'static str {
-    match heard {
-        Heard::Ignored => "ignored",
-        Heard::Recorded => "recorded",
-        Heard::Echoed => "echoed",
-        Heard::Readied => "readied",
-        Heard::Delivered => "delivered",
-        Heard::ReadiedDelivered => "readied delivered",
+impl From<Fault<'_>> for Said {
+    fn from(fault: Fault<'_>) -> Said {
+        Said::Fault {
+            refusal: fault.refusal,
+            line: fault.line,
+            at: fault.at,
+            length: fault.part.len(),
+        }
     }
 }
 
-fn write_refusal<W: fmt::Write>(refusal: Refusal, f: &mut fmt::Formatter<W>) -> fmt::Result {
-    let number = refusal.number();
-    write!(f, "refused {number}")
-}
-
-fn write_answer<W: fmt::Write>(answer: Answer, f: &mut fmt::Formatter<W>) -> fmt::Result {
-    match answer {
-        Answer::Proposed => write!(f, "proposed"),
-        Answer::Already => write!(f, "already"),
-        Answer::Stepped(heard) => write!(f, "{}", step_word(heard)),
-        Answer::Refused(refusal) => write_refusal(refusal, f),
+impl From<Issue> for Said {
+    fn from(issue: Issue) -> Said {
+        Said::Issue(issue)
     }
 }
 
-fn write_pairs<W: fmt::Write>(verdict: PairVerdict, f: &mut fmt::Formatter<W>) -> fmt::Result {
-    match verdict {
-        PairVerdict::All => write!(f, "all "),
-        PairVerdict::FirstFailing(i, j) => write!(f, "{},{} ", i.0, j.0),
+impl From<Withdrawal> for Said {
+    fn from(withdrawal: Withdrawal) -> Said {
+        Said::Withdrawal(withdrawal)
     }
 }
 
-fn write_judgement<W: fmt::Write>(judgement: Judgement, f: &mut fmt::Formatter<W>) -> fmt::Result {
-    write_pairs(judgement.b3, f)?;
-    write_pairs(judgement.consistency, f)?;
-    match judgement.availability {
-        NodeVerdict::All => write!(f, "all"),
-        NodeVerdict::FirstFailing(i) => write!(f, "{}", i.0),
+// A refusal as it is written.
+#[derive(Clone, Copy)]
+struct Refused(Refusal);
+
+impl fmt::Display for Refused {
+    fn fmt<W: fmt::Write>(&self, f: &mut fmt::Formatter<W>) -> fmt::Result {
+        write!(f, "refused {}", self.0.number())
     }
 }
 
-fn write_sorted<W: fmt::Write>(sorted: Sorted, f: &mut fmt::Formatter<W>) -> fmt::Result {
-    let wise = sorted.wise.0;
-    let naive = sorted.naive.0;
-    let guild = sorted.guild.0;
-    write!(f, "{wise:04x} {naive:04x} {guild:04x}")
+// What a node did, as it is written.
+#[derive(Clone, Copy)]
+struct Step(Heard);
+
+impl fmt::Display for Step {
+    fn fmt<W: fmt::Write>(&self, f: &mut fmt::Formatter<W>) -> fmt::Result {
+        f.write_str(match self.0 {
+            Heard::Ignored => "ignored",
+            Heard::Recorded => "recorded",
+            Heard::Echoed => "echoed",
+            Heard::Readied => "readied",
+            Heard::Delivered => "delivered",
+            Heard::ReadiedDelivered => "readied delivered",
+        })
+    }
 }
 
-fn write_counts<W: fmt::Write>(counts: Counts, f: &mut fmt::Formatter<W>) -> fmt::Result {
-    let proposed = counts.proposed;
-    let echoed = counts.echoed;
-    let readied = counts.readied;
-    let heard = counts.heard;
-    let waiting = counts.waiting;
-    write!(f, "{proposed} {echoed} {readied} {heard} {waiting}")
+// The answer of a call, as it is written.
+#[derive(Clone, Copy)]
+struct Answered(Answer);
+
+impl fmt::Display for Answered {
+    fn fmt<W: fmt::Write>(&self, f: &mut fmt::Formatter<W>) -> fmt::Result {
+        match self.0 {
+            Answer::Proposed => f.write_str("proposed"),
+            Answer::Already => f.write_str("already"),
+            Answer::Stepped(heard) => write!(f, "{}", Step(heard)),
+            Answer::Refused(refusal) => write!(f, "{}", Refused(refusal)),
+        }
+    }
 }
 
-fn write_issue<W: fmt::Write>(issue: Issue, f: &mut fmt::Formatter<W>) -> fmt::Result {
-    let account = issue.account;
-    let device = issue.device;
-    let request = issue.request;
-    let key = issue.key_print;
-    let start = issue.start;
-    let end = issue.end;
-    write!(f, "{account},{device},{request},{key},{start},{end}")
+// A verdict on pairs, as it is written.
+#[derive(Clone, Copy)]
+struct Pairs(PairVerdict);
+
+impl fmt::Display for Pairs {
+    fn fmt<W: fmt::Write>(&self, f: &mut fmt::Formatter<W>) -> fmt::Result {
+        match self.0 {
+            PairVerdict::All => f.write_str("all"),
+            PairVerdict::FirstFailing(i, j) => write!(f, "{},{}", i.0, j.0),
+        }
+    }
 }
 
-fn write_receipt<W: fmt::Write>(place: Option<Place>, f: &mut fmt::Formatter<W>) -> fmt::Result {
-    match place {
-        Some(place) => write!(f, "place {}", place.0),
-        None => write!(f, "absent"),
+// A verdict on nodes, as it is written.
+#[derive(Clone, Copy)]
+struct Nodes(NodeVerdict);
+
+impl fmt::Display for Nodes {
+    fn fmt<W: fmt::Write>(&self, f: &mut fmt::Formatter<W>) -> fmt::Result {
+        match self.0 {
+            NodeVerdict::All => f.write_str("all"),
+            NodeVerdict::FirstFailing(i) => write!(f, "{}", i.0),
+        }
+    }
+}
+
+// The five counts of a slot, as they are written.
+#[derive(Clone, Copy)]
+struct Counted(Counts);
+
+impl fmt::Display for Counted {
+    fn fmt<W: fmt::Write>(&self, f: &mut fmt::Formatter<W>) -> fmt::Result {
+        let c = self.0;
+        write!(
+            f,
+            "{} {} {} {} {}",
+            c.proposed, c.echoed, c.readied, c.heard, c.waiting
+        )
+    }
+}
+
+// An issue, as it is written.
+#[derive(Clone, Copy)]
+struct Fields(Issue);
+
+impl fmt::Display for Fields {
+    fn fmt<W: fmt::Write>(&self, f: &mut fmt::Formatter<W>) -> fmt::Result {
+        let i = self.0;
+        write!(
+            f,
+            "{},{},{},{},{},{}",
+            i.account, i.device, i.request, i.key_print, i.start, i.end
+        )
     }
 }
 
 impl fmt::Display for Said {
     fn fmt<W: fmt::Write>(&self, f: &mut fmt::Formatter<W>) -> fmt::Result {
         match *self {
-            Said::Unreadable => write!(f, "unreadable"),
-            Said::Missing => write!(f, "missing"),
-            Said::Made => write!(f, "ok"),
-            Said::Refused(refusal) => write_refusal(refusal, f),
+            Said::Unreadable => f.write_str("unreadable"),
+            Said::Missing => f.write_str("missing"),
+            Said::Made => f.write_str("ok"),
+            Said::Refused(refusal) => write!(f, "{}", Refused(refusal)),
             Said::Fault {
                 refusal,
                 line,
                 at,
                 length,
-            } => {
-                write_refusal(refusal, f)?;
-                write!(f, " {line} {at} {length}")
-            }
-            Said::Judged(judgement) => write_judgement(judgement, f),
+            } => write!(f, "{} {line} {at} {length}", Refused(refusal)),
+            Said::Judged(j) => write!(
+                f,
+                "{} {} {}",
+                Pairs(j.b3),
+                Pairs(j.consistency),
+                Nodes(j.availability)
+            ),
             Said::Size(size) => write!(f, "{size}"),
-            Said::Truth(true) => write!(f, "yes"),
-            Said::Truth(false) => write!(f, "no"),
-            Said::Sorted(sorted) => write_sorted(sorted, f),
-            Said::Opened => write!(f, "opened"),
-            Said::Answered(answer) => write_answer(answer, f),
-            Said::Receipt(place) => write_receipt(place, f),
-            Said::Counts(counts) => write_counts(counts, f),
+            Said::Truth(true) => f.write_str("yes"),
+            Said::Truth(false) => f.write_str("no"),
+            Said::Sorted(s) => write!(f, "{:04x} {:04x} {:04x}", s.wise.0, s.naive.0, s.guild.0),
+            Said::Opened => f.write_str("opened"),
+            Said::Answered(answer) => write!(f, "{}", Answered(answer)),
+            Said::Receipt(Some(place)) => write!(f, "place {}", place.0),
+            Said::Receipt(None) => f.write_str("absent"),
+            Said::Counts(counts) => write!(f, "{}", Counted(counts)),
             Said::Tally(counted, left_out) => write!(f, "{counted} {left_out}"),
-            Said::Issue(issue) => write_issue(issue, f),
+            Said::Issue(issue) => write!(f, "{}", Fields(issue)),
             Said::Withdrawal(withdrawal) => write!(f, "{}", withdrawal.serial),
         }
     }

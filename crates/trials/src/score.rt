@@ -1,19 +1,24 @@
 use crate::line::Line;
 use crate::said::Said;
+use std::fmt;
 
 // What came of the trials so far.
-#[derive(Clone, Copy)]
+#[derive(Clone, Copy, Default)]
 pub struct Score {
-    pub cases: u64,
-    pub answers: u64,
-    pub differ: u64,
+    cases: u64,
+    answers: u64,
+    differ: u64,
 }
 
 impl Score {
+    pub(crate) fn add_case(&mut self) {
+        self.cases = self.cases.saturating_add(1);
+    }
+
     // One more answer, which is printed where it is not as the line says.
     pub(crate) fn note(
         &mut self,
-        rt: &HostRuntime,
+        rt: &(impl Print + AllocGlobal),
         line: &Line<'_>,
         said: Said,
     ) -> anyhow::Result<()> {
@@ -24,11 +29,20 @@ impl Score {
             return Ok(());
         }
         self.differ = self.differ.saturating_add(1);
-        let number = line.number;
-        let mark = line.mark;
-        let step = line.step;
-        let expected = line.expected;
-        println!(rt; "line {number}: {mark}{step} => {answer}, not {expected}")?;
+        println!(rt;
+            "line {}: {}{} => {answer}, not {}",
+            line.number, line.mark, line.step, line.expected
+        )?;
         Ok(())
+    }
+}
+
+impl fmt::Display for Score {
+    fn fmt<W: fmt::Write>(&self, f: &mut fmt::Formatter<W>) -> fmt::Result {
+        write!(
+            f,
+            "{} cases, {} answers, {} differ",
+            self.cases, self.answers, self.differ
+        )
     }
 }

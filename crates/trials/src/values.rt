@@ -1,32 +1,15 @@
 use crate::said::Said;
-use crate::words::decimal;
+use crate::words::number;
 use kinds::issue::Issue;
 use kinds::withdrawal::Withdrawal;
+use runs::value::ValueKind;
 
 // A kind of value as a trial file writes it.
-pub trait Written {
+pub trait Written: ValueKind + Copy + Into<Said> {
     // All fields 0.
     fn zero() -> Self;
 
     fn read(word: &str) -> Option<Self>;
-
-    fn said(&self) -> Said;
-}
-
-// The six numbers of a value, separated by commas.
-fn read_fields(word: &str, fields: &mut [u64; 6]) -> bool {
-    let mut count = 0;
-    for field in word.split(',') {
-        let Some(number) = decimal(field) else {
-            return false;
-        };
-        if count >= 6 {
-            return false;
-        }
-        fields[count] = number;
-        count += 1;
-    }
-    count == 6
 }
 
 impl Written for Issue {
@@ -41,24 +24,18 @@ impl Written for Issue {
         }
     }
 
+    // Six numbers, separated by commas.
     fn read(word: &str) -> Option<Issue> {
-        let mut fields = [0; 6];
-        if !read_fields(word, &mut fields) {
-            return None;
-        }
-        let [account, device, request, key_print, start, end] = fields;
-        Some(Issue {
-            account: u16::try_from(account).ok()?,
-            device: u32::try_from(device).ok()?,
-            request: u32::try_from(request).ok()?,
-            key_print,
-            start,
-            end,
-        })
-    }
-
-    fn said(&self) -> Said {
-        Said::Issue(*self)
+        let mut fields = word.split(',');
+        let issue = Issue {
+            account: number(fields.next()?)?,
+            device: number(fields.next()?)?,
+            request: number(fields.next()?)?,
+            key_print: number(fields.next()?)?,
+            start: number(fields.next()?)?,
+            end: number(fields.next()?)?,
+        };
+        fields.next().is_none().then_some(issue)
     }
 }
 
@@ -69,11 +46,7 @@ impl Written for Withdrawal {
 
     fn read(word: &str) -> Option<Withdrawal> {
         Some(Withdrawal {
-            serial: decimal(word)?,
+            serial: number(word)?,
         })
-    }
-
-    fn said(&self) -> Said {
-        Said::Withdrawal(*self)
     }
 }

@@ -1,31 +1,28 @@
-use sets::{Node, NodeSet};
+ghost use Rattle.std.specs.Prelude.{ℕ, ◌≤◌, length};
+ghost use Rattle.std.specs.Str.Iter.{bytes_rest};
+
+use sets::NodeSet;
 use std::alloc::{AllocError, Global};
+use std::str::{Bytes, FromStr};
 
-// A decimal number of digits alone.
-pub(crate) fn decimal(word: &str) -> Option<u64> {
-    for byte in word.as_bytes() {
-        if !byte.is_ascii_digit() {
-            return None;
-        }
+// A decimal number of digits alone, which fits its type.
+pub(crate) fn number<T: FromStr>(word: &str) -> Option<T>
+where
+    T::Err: Drop,
+{
+    if word.bytes().all(|byte| byte.is_ascii_digit()) {
+        word.parse().ok()
+    } else {
+        None
     }
-    word.parse::<u64>().ok()
-}
-
-pub(crate) fn number(word: &str) -> Option<u32> {
-    u32::try_from(decimal(word)?).ok()
-}
-
-pub(crate) fn small_number(word: &str) -> Option<u16> {
-    u16::try_from(decimal(word)?).ok()
 }
 
 // The value of a hexadecimal digit with a small letter.
 fn hex(digit: u8) -> Option<u8> {
-    match digit {
-        b'0'..=b'9' => Some(digit - b'0'),
-        b'a'..=b'f' => Some(digit - b'a' + 10),
-        _ => None,
+    if digit.is_ascii_uppercase() {
+        return None;
     }
+    (digit as char).to_digit(16).map(|value| value as u8)
 }
 
 // A mask of four hexadecimal digits.
@@ -33,37 +30,20 @@ pub(crate) fn mask(word: &str) -> Option<NodeSet> {
     let [a, b, c, d] = word.as_bytes() else {
         return None;
     };
-    let high = u16::from(hex(*a)?) << 12 | u16::from(hex(*b)?) << 8;
-    let low = u16::from(hex(*c)?) << 4 | u16::from(hex(*d)?);
-    Some(NodeSet(high | low))
+    let high = hex(*a)? << 4 | hex(*b)?;
+    let low = hex(*c)? << 4 | hex(*d)?;
+    Some(NodeSet(u16::from_be_bytes([high, low])))
 }
 
-// A node and a set, as `NODE MASK`.
-pub(crate) fn node_and_set(fields: &[&str]) -> Option<(Node, NodeSet)> {
-    let [node, set] = fields else {
-        return None;
-    };
-    Some((Node(number(node)?), mask(set)?))
-}
-
-// How far a byte that is written by its two digits has been read.
-#[derive(Clone, Copy)]
-enum Escape {
-    None,
-    Begun,
-    High(u8),
-}
-
-// One more byte of a written text: what it stands for, if that is complete, and what is awaited then.
-fn decoded(escape: Escape, byte: u8) -> Option<(Option<u8>, Escape)> {
-    match (escape, byte) {
-        (Escape::None, b'%') => Some((None, Escape::Begun)),
-        (Escape::None, b'_') => Some((Some(9), Escape::None)),
-        (Escape::None, b'/') => Some((Some(10), Escape::None)),
-        (Escape::None, b'0'..=b'9' | b'A'..=b'Z' | b'a'..=b'z') => Some((Some(byte), Escape::None)),
-        (Escape::None, _) => None,
-        (Escape::Begun, digit) => Some((None, Escape::High(hex(digit)?))),
-        (Escape::High(high), digit) => Some((Some(high << 4 | hex(digit)?), Escape::None)),
+// The byte that a written byte stands for, and after `%` the two digits that follow it.
+fn unescaped(byte: u8, rest: &mut Bytes<'_>) -> Option<u8>
+    ensures { length (bytes_rest rest.new) ≤ length (bytes_rest rest.old) }
+{
+    match byte {
+        b'_' => Some(b'\t'),
+        b'/' => Some(b'\n'),
+        b'%' => Some(hex(rest.next()?)? << 4 | hex(rest.next()?)?),
+        _ => byte.is_ascii_alphanumeric().then_some(byte),
     }
 }
 
@@ -76,18 +56,12 @@ pub(crate) fn decode(heap: Global, word: &str) -> Result<Option<Vec<u8>>, AllocE
     if word.is_empty() {
         return Ok(None);
     }
-    let mut escape = Escape::None;
-    for byte in word.as_bytes() {
-        let Some((complete, next)) = decoded(escape, *byte) else {
+    let mut rest = word.bytes();
+    while let Some(byte) = rest.next() {
+        let Some(byte) = unescaped(byte, &mut rest) else {
             return Ok(None);
         };
-        if let Some(one) = complete {
-            bytes.push(one)?;
-        }
-        escape = next;
+        bytes.push(byte)?;
     }
-    Ok(match escape {
-        Escape::None => Some(bytes),
-        _ => None,
-    })
+    Ok(Some(bytes))
 }
