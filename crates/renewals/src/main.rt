@@ -3,14 +3,12 @@
 use anyhow::Context;
 use kinds::issue::Issue;
 use panel::panel::Panel;
-use protocol::record::Heard;
-use runs::call::{Answer, Call, Entry};
+use runs::call::{Call, Entry, Outcome};
 use sets::{Node, NodeSet};
 use std::alloc::{AllocError, Global};
-use text::reading::read_statement;
+use text::reading::statement_of;
 use trust::rule::TrustRule;
 use trust::sorting::sort;
-use trust::statement::Statement;
 
 // The statement of five plants; node 4 is the one that lies.
 const TEXT: &[u8] =
@@ -40,7 +38,7 @@ fn renewal(key_print: u64) -> Issue {
 fn entry(call: Call<Issue>) -> Entry<Issue> {
     Entry {
         call,
-        answer: Answer::Already,
+        answer: Ok(Outcome::Already),
     }
 }
 
@@ -77,32 +75,19 @@ fn hands(heap: Global) -> Result<Vec<Entry<Issue>>, AllocError> {
         .collect(heap)
 }
 
-fn word(answer: Answer) -> &'static str {
-    match answer {
-        Answer::Proposed => "proposed",
-        Answer::Already => "already",
-        Answer::Stepped(Heard::Ignored) => "ignored",
-        Answer::Stepped(Heard::Recorded) => "recorded",
-        Answer::Stepped(Heard::Echoed) => "echoed",
-        Answer::Stepped(Heard::Readied) => "readied",
-        Answer::Stepped(Heard::Delivered) => "delivered",
-        Answer::Stepped(Heard::ReadiedDelivered) => "readied delivered",
-        Answer::Refused(_) => "refused",
-    }
-}
-
 fn print_answers(rt: &impl Print, log: &[Entry<Issue>]) -> anyhow::Result<()> {
     for entry in log {
-        println!(rt; "{}", word(entry.answer))?;
+        match entry.answer {
+            Ok(outcome) => println!(rt; "{outcome}")?,
+            Err(_) => println!(rt; "refused")?,
+        }
     }
     Ok(())
 }
 
 // How many calls of a list were not refused.
 fn accepted(log: &[Entry<Issue>]) -> usize {
-    log.iter()
-        .filter(|entry| !matches!(entry.answer, Answer::Refused(_)))
-        .count()
+    log.iter().filter(|entry| entry.answer.is_ok()).count()
 }
 
 // A host of one panel, with the roll that it keeps for it.
@@ -192,9 +177,6 @@ fn play<R: TrustRule>(rt: &(impl Print + AllocGlobal), rule: &R) -> anyhow::Resu
 }
 
 fn main(rt: HostRuntime) -> anyhow::Result<()> {
-    let mut statement = Statement::fresh();
-    read_statement(TEXT, &mut statement)
-        .ok()
-        .context("the statement is refused")?;
+    let statement = statement_of(TEXT).ok().context("the statement is refused")?;
     play(&rt, &statement)
 }

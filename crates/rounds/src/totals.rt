@@ -16,8 +16,8 @@ pub struct Totals {
 impl Totals {
     pub(crate) fn add_call(&mut self, answer: Answer) {
         match answer {
-            Answer::Refused(_) => self.refused = self.refused.wrapping_add(1),
-            _ => self.accepted = self.accepted.wrapping_add(1),
+            Ok(_) => self.accepted = self.accepted.wrapping_add(1),
+            Err(_) => self.refused = self.refused.wrapping_add(1),
         }
     }
 

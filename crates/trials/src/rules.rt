@@ -3,9 +3,9 @@ use crate::said::Said;
 use crate::words::{decode, mask, number};
 use sets::{Node, NodeSet};
 use std::alloc::{AllocError, Global};
-use text::reading::read_statement;
-use trust::family::Family;
+use text::reading::statement_of;
 use trust::judging::Judgement;
+use trust::node_trust::NodeTrust;
 use trust::refusal::Refusal;
 use trust::rule::TrustRule;
 use trust::sorting::sort;
@@ -36,39 +36,28 @@ impl Judging for Threshold {
     }
 }
 
-// The sets of the nodes, node k's at k - 1.
-#[derive(Clone, Copy)]
-struct Lists {
-    fails: [Family; 16],
-    quorums: [Family; 16],
-}
-
-impl Lists {
-    // One set more for the node of an entry, `F:NODE:MASK` or `Q:NODE:MASK`; None where it cannot be read, or the node has 16.
-    fn add(&mut self, entry: &str) -> Option<()> {
-        let (letter, rest) = entry.split_once(':')?;
-        let (node, set) = rest.split_once(':')?;
-        let at = number::<usize>(node)?.checked_sub(1)?;
-        let set = mask(set)?;
-        match letter {
-            "F" => self.fails.get_mut(at)?.push(set).then_some(()),
-            "Q" => self.quorums.get_mut(at)?.push(set).then_some(()),
-            _ => None,
-        }
+// One set more for the node of an entry, `F:NODE:MASK` or `Q:NODE:MASK`; None where it cannot be read, or the node has 16.
+fn add(trust: &mut [NodeTrust; 16], entry: &str) -> Option<()> {
+    let (letter, rest) = entry.split_once(':')?;
+    let (node, set) = rest.split_once(':')?;
+    let at = number::<usize>(node)?.checked_sub(1)?;
+    let set = mask(set)?;
+    let node = trust.get_mut(at)?;
+    match letter {
+        "F" => node.fails.push(set).ok(),
+        "Q" => node.quorums.push(set).ok(),
+        _ => None,
     }
 }
 
 // A statement made from lists.
 fn listed(fields: &[&str]) -> Option<Result<Rule, Refusal>> {
     let (count, entries) = fields.split_first()?;
-    let mut lists = Lists {
-        fails: [Family::empty(); 16],
-        quorums: [Family::empty(); 16],
-    };
+    let mut trust = [NodeTrust::nothing(); 16];
     for entry in entries {
-        lists.add(entry)?;
+        add(&mut trust, entry)?;
     }
-    Some(Statement::new(number(count)?, lists.fails, lists.quorums).map(Rule::Listed))
+    Some(Statement::new(number(count)?, trust).map(Rule::Listed))
 }
 
 fn threshold(fields: &[&str]) -> Option<Result<Rule, Refusal>> {
@@ -84,9 +73,8 @@ fn read(heap: Global, fields: &[&str]) -> Result<Result<Rule, Said>, AllocError>
     let Some(bytes) = decode(heap, word)? else {
         return Ok(Err(Said::Unreadable));
     };
-    let mut statement = Statement::fresh();
-    Ok(match read_statement(bytes.as_slice(), &mut statement) {
-        Ok(()) => Ok(Rule::Listed(statement)),
+    Ok(match statement_of(bytes.as_slice()) {
+        Ok(statement) => Ok(Rule::Listed(statement)),
         Err(fault) => Err(fault.into()),
     })
 }

@@ -1,11 +1,11 @@
 use kinds::issue::Issue;
 use kinds::withdrawal::Withdrawal;
 use protocol::message::Place;
-use protocol::record::Heard;
 use runs::call::{Answer, Counts};
+use sets::Node;
 use std::fmt;
 use text::reading::Fault;
-use trust::judging::{Judgement, NodeVerdict, PairVerdict};
+use trust::judging::Judgement;
 use trust::refusal::Refusal;
 use trust::sorting::Sorted;
 
@@ -60,72 +60,31 @@ impl From<Withdrawal> for Said {
     }
 }
 
-// A refusal as it is written.
+// Two nodes, as they are written.
 #[derive(Clone, Copy)]
-struct Refused(Refusal);
+struct Pair(Node, Node);
 
-impl fmt::Display for Refused {
+impl fmt::Display for Pair {
     fn fmt<W: fmt::Write>(&self, f: &mut fmt::Formatter<W>) -> fmt::Result {
-        write!(f, "refused {}", self.0.number())
+        write!(f, "{},{}", self.0, self.1)
     }
 }
 
-// What a node did, as it is written.
+// A verdict, as it is written: all pass, or the first that does not.
 #[derive(Clone, Copy)]
-struct Step(Heard);
+struct Verdict<T>(Option<T>);
 
-impl fmt::Display for Step {
+impl<T: fmt::Display> fmt::Display for Verdict<T> {
     fn fmt<W: fmt::Write>(&self, f: &mut fmt::Formatter<W>) -> fmt::Result {
-        f.write_str(match self.0 {
-            Heard::Ignored => "ignored",
-            Heard::Recorded => "recorded",
-            Heard::Echoed => "echoed",
-            Heard::Readied => "readied",
-            Heard::Delivered => "delivered",
-            Heard::ReadiedDelivered => "readied delivered",
-        })
-    }
-}
-
-// The answer of a call, as it is written.
-#[derive(Clone, Copy)]
-struct Answered(Answer);
-
-impl fmt::Display for Answered {
-    fn fmt<W: fmt::Write>(&self, f: &mut fmt::Formatter<W>) -> fmt::Result {
-        match self.0 {
-            Answer::Proposed => f.write_str("proposed"),
-            Answer::Already => f.write_str("already"),
-            Answer::Stepped(heard) => write!(f, "{}", Step(heard)),
-            Answer::Refused(refusal) => write!(f, "{}", Refused(refusal)),
+        match &self.0 {
+            None => f.write_str("all"),
+            Some(first) => write!(f, "{first}"),
         }
     }
 }
 
-// A verdict on pairs, as it is written.
-#[derive(Clone, Copy)]
-struct Pairs(PairVerdict);
-
-impl fmt::Display for Pairs {
-    fn fmt<W: fmt::Write>(&self, f: &mut fmt::Formatter<W>) -> fmt::Result {
-        match self.0 {
-            PairVerdict::All => f.write_str("all"),
-            PairVerdict::FirstFailing(i, j) => write!(f, "{},{}", i.0, j.0),
-        }
-    }
-}
-
-// A verdict on nodes, as it is written.
-#[derive(Clone, Copy)]
-struct Nodes(NodeVerdict);
-
-impl fmt::Display for Nodes {
-    fn fmt<W: fmt::Write>(&self, f: &mut fmt::Formatter<W>) -> fmt::Result {
-        match self.0 {
-            NodeVerdict::All => f.write_str("all"),
-            NodeVerdict::FirstFailing(i) => write!(f, "{}", i.0),
-        }
-    }
+fn pairs(failing: Option<(Node, Node)>) -> Verdict<Pair> {
+    Verdict(failing.map(|(i, j)| Pair(i, j)))
 }
 
 // The five counts of a slot, as they are written.
@@ -164,26 +123,27 @@ impl fmt::Display for Said {
             Said::Unreadable => f.write_str("unreadable"),
             Said::Missing => f.write_str("missing"),
             Said::Made => f.write_str("ok"),
-            Said::Refused(refusal) => write!(f, "{}", Refused(refusal)),
+            Said::Refused(refusal) => write!(f, "{refusal}"),
             Said::Fault {
                 refusal,
                 line,
                 at,
                 length,
-            } => write!(f, "{} {line} {at} {length}", Refused(refusal)),
+            } => write!(f, "{refusal} {line} {at} {length}"),
             Said::Judged(j) => write!(
                 f,
                 "{} {} {}",
-                Pairs(j.b3),
-                Pairs(j.consistency),
-                Nodes(j.availability)
+                pairs(j.b3),
+                pairs(j.consistency),
+                Verdict(j.availability)
             ),
             Said::Size(size) => write!(f, "{size}"),
             Said::Truth(true) => f.write_str("yes"),
             Said::Truth(false) => f.write_str("no"),
             Said::Sorted(s) => write!(f, "{:04x} {:04x} {:04x}", s.wise.0, s.naive.0, s.guild.0),
             Said::Opened => f.write_str("opened"),
-            Said::Answered(answer) => write!(f, "{}", Answered(answer)),
+            Said::Answered(Ok(outcome)) => write!(f, "{outcome}"),
+            Said::Answered(Err(refusal)) => write!(f, "{refusal}"),
             Said::Receipt(Some(place)) => write!(f, "place {}", place.0),
             Said::Receipt(None) => f.write_str("absent"),
             Said::Counts(counts) => write!(f, "{}", Counted(counts)),
