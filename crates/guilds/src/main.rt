@@ -5,6 +5,5 @@ use reports::printing::print_report;
 
 // Reads a statement text from standard input and prints its table of guilds, or the line of its refusal.
 fn main(rt: HostRuntime) -> anyhow::Result<()> {
-    print_report(&rt, report)?;
-    Ok(())
+    print_report(&rt, report)
 }

@@ -6,9 +6,10 @@ use panel::panel::Panel;
 use runs::call::{Call, Entry, Outcome};
 use sets::{Node, NodeSet};
 use std::alloc::{AllocError, Global};
-use text::reading::statement_of;
+use text::reading::read_statement;
 use trust::rule::TrustRule;
 use trust::sorting::sort;
+use trust::statement::Statement;
 
 // The statement of five plants; node 4 is the one that lies.
 const TEXT: &[u8] =
@@ -177,6 +178,9 @@ fn play<R: TrustRule>(rt: &(impl Print + AllocGlobal), rule: &R) -> anyhow::Resu
 }
 
 fn main(rt: HostRuntime) -> anyhow::Result<()> {
-    let statement = statement_of(TEXT).ok().context("the statement is refused")?;
+    let mut statement = Statement::fresh();
+    read_statement(TEXT, &mut statement)
+        .ok()
+        .context("the statement is refused")?;
     play(&rt, &statement)
 }

@@ -1,10 +1,10 @@
 ghost use Rattle.std.specs.Prelude.{Ok, OnOk};
 
 use std::alloc::{AllocError, Global};
-use std::io::{self, Read};
+use std::io::Read;
 
 // Reads a text from standard input and prints the report on it. No clause can say what is read or printed.
-pub fn print_report<F>(rt: &(impl Input + Print + AllocGlobal), report: F) -> io::Result<()>
+pub fn print_report<F>(rt: &(impl Input + Print + AllocGlobal), report: F) -> anyhow::Result<()>
 where
     F: FnOnce(Global, &[u8]) -> Result<String, AllocError>,
     requires { F.IsAlwaysCallable report }

@@ -128,11 +128,23 @@ impl<P: Print + AllocGlobal> Run<'_, P> {
     ) -> anyhow::Result<()> {
         let fields = first.fields(self.rt.alloc())?;
         let made = make(self.rt.alloc(), making, fields.as_slice())?;
-        self.note(first, made.err().unwrap_or(Said::Made))?;
         match made {
-            Ok(Rule::Listed(statement)) => self.play_rows(&statement, rest),
-            Ok(Rule::Threshold(threshold)) => self.play_rows(&threshold, rest),
-            Err(_) => self.play_without_rule(rest),
+            Ok(rule) => {
+                self.note(first, Said::Made)?;
+                self.play_by(rule, rest)
+            }
+            Err(said) => {
+                self.note(first, said)?;
+                self.play_without_rule(rest)
+            }
+        }
+    }
+
+    // Plays the lines after the line of a rule.
+    fn play_by(&mut self, rule: Rule, rest: &[Line<'_>]) -> anyhow::Result<()> {
+        match rule {
+            Rule::Listed(statement) => self.play_rows(&statement, rest),
+            Rule::Threshold(threshold) => self.play_rows(&threshold, rest),
         }
     }
 

@@ -57,7 +57,11 @@ fn listed(fields: &[&str]) -> Option<Result<Rule, Refusal>> {
     for entry in entries {
         add(&mut trust, entry)?;
     }
-    Some(Statement::new(number(count)?, trust).map(Rule::Listed))
+    // `map` over a statement is a form that the prover does not build yet.
+    Some(match Statement::new(number(count)?, trust) {
+        Ok(statement) => Ok(Rule::Listed(statement)),
+        Err(refusal) => Err(refusal),
+    })
 }
 
 fn threshold(fields: &[&str]) -> Option<Result<Rule, Refusal>> {
