@@ -22,7 +22,7 @@ setting_of b = among b.parties.size b.parties.faulty.0 b.sender.0
 abbrev pub says : Setting → Slot → Kind → ℕ → Bool
 says w s m k = correct? w k && any (said w s m k)
 
--- each answer to a node is that of a test of its number, and likewise of a route
+-- what is answered of a node is what a test says of its number; and of a route, what one says of its kind and its two numbers
 abbrev pub Tests : (Member → Bool → Type 0) → (ℕ → Bool) → Type 0
 Tests answers p = (k : Member) (b : Bool) → answers k b → b ≡ p k.node.0
 

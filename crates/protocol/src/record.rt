@@ -59,6 +59,7 @@ fn recorded_with(entries: &[Option<Place>; 16], place: Place) -> NodeSet
 }
 
 // Writes the value where the test passes and nothing stands there yet, and says whether it did.
+// The test stays beside the value: as one `Option` each call would write `test.then_some(place)`, which is no plainer.
 fn set_once(entry: &mut Option<Place>, test: bool, place: Place) -> bool
     ensures after { entry.new ≡ once test place entry.old }
     ensures said { result ≡ now_set test entry.old }

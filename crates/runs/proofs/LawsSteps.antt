@@ -3,6 +3,7 @@ use Rattle.std.proofs.Common.{◌≡◌, ℕ, ◌-◌, ◌<◌, ◌≤◌, Bool,
 use Rattle.std.proofs.lemmas.Bool.{and_parts, and_from, and_right, or_cases, or_left, or_right, eqb-true, eq-eqb, ne_eqb, cases_eq, false≢true}
 use Rattle.sets.proofs.Tests.{same_answer}
 use Rattle.trust.specs.Trust.{Trust, holds_quorum, holds_kernel}
+use Rattle.protocol.specs.Kinds.{kind_number, kind_of}
 use Rattle.protocol.specs.Hearing.{recorded_with, once, now_set, taken, heeds, told, takes, hear}
 use Rattle.protocol.specs.declared.message.Place.{Place}
 use Rattle.protocol.specs.declared.message.Kind.{Kind}
@@ -25,21 +26,18 @@ pub any_some : (o : Option Place) → any o ≡ true → IsSome o
 any_some None e = absurd (false≢true e)
 any_some (Some u) e = (u, refl)
 
+kind_numbered : (m : Kind) → kind_of (kind_number m) ≡ Some m
+kind_numbered Send = refl
+kind_numbered Echo = refl
+kind_numbered Ready = refl
+
 same_kind_is : (m n : Kind) → same_kind m n ≡ true → m ≡ n
-same_kind_is Send Send e = refl
-same_kind_is Send Echo e = absurd (false≢true e)
-same_kind_is Send Ready e = absurd (false≢true e)
-same_kind_is Echo Send e = absurd (false≢true e)
-same_kind_is Echo Echo e = refl
-same_kind_is Echo Ready e = absurd (false≢true e)
-same_kind_is Ready Send e = absurd (false≢true e)
-same_kind_is Ready Echo e = absurd (false≢true e)
-same_kind_is Ready Ready e = refl
+same_kind_is m n e =
+    let one : ◌≡◌ {A = Option Kind} (Some m) (Some n) = sym (kind_numbered m) ∙ ap kind_of (eqb-true (kind_number m) (kind_number n) e) ∙ kind_numbered n in
+    cc
 
 pub kind_is_same : (m : Kind) → same_kind m m ≡ true
-kind_is_same Send = refl
-kind_is_same Echo = refl
-kind_is_same Ready = refl
+kind_is_same m = eq-eqb (kind_number m) (kind_number m) refl
 
 -- a slot of a board with slot t written anew
 pub on_slot : (Q : ℕ → Slot → Type 0) (b : List Slot) (t s : ℕ) (new : Slot) → t < length b → Q t new → ((t ≡ s → ⊥) → Q s (slot_at b s)) → Q s (slot_at (set b t new) s)

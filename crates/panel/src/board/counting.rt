@@ -9,7 +9,7 @@ use runs::call::Counts;
 use sets::Node;
 
 // How many of the nodes 1 to n pass.
-// A loop, as in `count_kind`: in a chain the closure does not know that a number is one of 1 to 16, and its proof did not close.
+// A loop, as in `count_kind`: nothing tells a chain's closure that its number is one of 1 to 16, and that proof did not close.
 fn count<F: Fn(Member) -> bool>(n: u32, test: F) -> u32
     requires few { n ≤ 16 }
     requires callable { F.IsAlwaysCallable test }

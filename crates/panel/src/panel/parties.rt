@@ -16,6 +16,7 @@ use trust::refusal::Refusal;
 use trust::rule::TrustRule;
 
 impl<'r, R: TrustRule> Panel<'r, R> {
+    // The rule's nodes, and which of them are faulty.
     fn parties(&self) -> Parties
         ensures size { result.size ≡ (R.meaning self.now.rule.now).size }
         ensures faulty { result.faulty ≡ self.now.faulty }
@@ -41,12 +42,14 @@ impl<'r, R: TrustRule> Panel<'r, R> {
         Node(slot.number % self.rule.size() + 1)
     }
 
+    // Its sender is not faulty.
     pub(super) fn has_correct_sender(&self, slot: SlotIndex) -> bool
         ensures { result ≡ correct (world_of R.meaning self.now) (sender (world_of R.meaning self.now) slot.number) }
     {
         self.is_correct(self.sender(slot))
     }
 
+    // What is known of the broadcast of a slot.
     pub(super) fn broadcast(&self, slot: SlotIndex) -> Broadcast<'_>
         ensures { IsBroadcastOf (world_of R.meaning self.now) self.now.board.slots slot.number result }
     {
