@@ -1,5 +1,5 @@
 // A certificate to issue: for an account's device, by the number of the request, until the end second.
-#[derive(Clone, Copy, Debug, PartialEq, Eq)]
+#[derive(Clone, Copy, Default, Debug, PartialEq, Eq)]
 pub struct Issue {
     pub account: u16,
     pub device: u32,

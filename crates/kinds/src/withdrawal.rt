@@ -1,5 +1,5 @@
 // A certificate to withdraw, by its serial.
-#[derive(Clone, Copy, Debug, PartialEq, Eq)]
+#[derive(Clone, Copy, Default, Debug, PartialEq, Eq)]
 pub struct Withdrawal {
     pub serial: u64,
 }

@@ -28,7 +28,7 @@ impl<'r, R: TrustRule, V: Written> Host<'r, R, V> {
     ) -> Result<Host<'r, R, V>, AllocError> {
         Ok(Host {
             rule,
-            row: vec![in heap; V::zero(); usize::from(length)]?,
+            row: vec![in heap; V::default(); usize::from(length)]?,
             panel: None,
         })
     }

@@ -5,25 +5,11 @@ use kinds::withdrawal::Withdrawal;
 use runs::value::ValueKind;
 
 // A kind of value as a trial file writes it.
-pub trait Written: ValueKind + Copy + Into<Said> {
-    // All fields 0.
-    fn zero() -> Self;
-
+pub trait Written: ValueKind + Copy + Default + Into<Said> {
     fn read(word: &str) -> Option<Self>;
 }
 
 impl Written for Issue {
-    fn zero() -> Issue {
-        Issue {
-            account: 0,
-            device: 0,
-            request: 0,
-            key_print: 0,
-            start: 0,
-            end: 0,
-        }
-    }
-
     // Six numbers, separated by commas.
     fn read(word: &str) -> Option<Issue> {
         let mut fields = word.split(',');
@@ -40,10 +26,6 @@ impl Written for Issue {
 }
 
 impl Written for Withdrawal {
-    fn zero() -> Withdrawal {
-        Withdrawal { serial: 0 }
-    }
-
     fn read(word: &str) -> Option<Withdrawal> {
         Some(Withdrawal {
             serial: number(word)?,
