@@ -10,6 +10,7 @@ use trust::rule::TrustRule;
 
 // What a node knows of one broadcast: the values that it echoed, readied and delivered,
 // and the first ECHO and the first READY from each node, node k's at k - 1.
+// The last two are arrays of their own: each is counted as a whole, and never both at one node.
 #[derive(Clone, Copy, Debug, PartialEq, Eq)]
 pub struct Record {
     pub echoed: Option<Place>,

@@ -58,7 +58,8 @@ fn table<R: TrustRule>(heap: Global, rule: &R) -> Result<String, AllocError>
     Ok(out)
 }
 
-// What program `guilds` prints for a statement text.
+// What program `guilds` prints for a statement text. `judge` has a function of the same two arms:
+// one that takes the report would have to say by a predicate what these two say of their bytes.
 pub fn report(heap: Global, text: &[u8]) -> Result<String, AllocError>
     ensures { IfOk result (λ out. Reports text.now (string_bytes out)) }
 {

@@ -4,6 +4,7 @@ ghost use Rattle.text.specs.Lines.{NextLine};
 use crate::fields::run_before;
 
 // A line of a text without its byte 10, its place in the text, and whether byte 10 ends it.
+// A flag, and no Option: a line that nothing ends has its bytes and its place too, and the fault names them.
 #[derive(Clone, Copy)]
 pub(crate) struct Line<'t> {
     pub bytes: &'t [u8],

@@ -5,6 +5,7 @@ use crate::family::Family;
 use sets::NodeSet;
 
 // What a node trusts: its fail-prone sets and its quorums.
+// The count of nodes stays a plain number: a type that holds `n ≤ 16` would be taken off in each of its few uses.
 #[derive(Clone, Copy)]
 pub struct NodeTrust {
     pub fails: Family,

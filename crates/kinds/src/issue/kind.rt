@@ -17,6 +17,7 @@ impl ValueKind for Issue {
         self.end > self.start && self.end - self.start <= LONGEST
     }
 
+    // Three of the fields, where `==` has all six.
     fn same_claim(&self, other: &Issue) -> bool {
         self.account == other.account
             && self.device == other.device

@@ -29,6 +29,7 @@ impl Draft {
     {
         let nodes = self.nodes;
         let mut trust = self.trust;
+        // `map` of the array was tried: its contract leaves open what the closure has captured from the second call on.
         for node in trust.iter_mut() {
             *node = complete(*node, nodes);
         }

@@ -25,7 +25,7 @@ impl Statement {
         &self.trust[..self.nodes as usize]
     }
 
-    // The lowest node that fails the test with what a node trusts.
+    // The lowest node that fails the test with what a node trusts. `position` was tried: no proof closed of a closure that calls this one.
     fn first_with<F: Fn(&NodeTrust, &NodeTrust) -> bool>(
         &self,
         ours: &NodeTrust,
@@ -42,7 +42,7 @@ impl Statement {
         None
     }
 
-    // The pair that fails the test with the lowest first node, and then the lowest second.
+    // The pair that fails the test with the lowest first node, and then the lowest second. A loop for the same reason.
     fn first_pair<F: Fn(&NodeTrust, &NodeTrust) -> bool>(&self, passes: F) -> Option<(Node, Node)>
         requires { F.IsAlwaysCallable passes }
         ensures { (p : NodeTrust → NodeTrust → Bool) → AnswersAs F.Fn passes p → result ≡ first_pair self.now.nodes self.now.nodes (λ i j. p (trust_at self.now.trust i) (trust_at self.now.trust j)) }
