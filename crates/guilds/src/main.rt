@@ -1,9 +1,9 @@
 #![tactic(auto)]
 
-use reports::guilds::report;
-use reports::printing::print_report;
+use reports::guilds::Guilds;
+use reports::reporting::print_report;
 
 // Reads a statement text from standard input and prints its table of guilds, or the line of its refusal.
 fn main(rt: HostRuntime) -> anyhow::Result<()> {
-    print_report(&rt, report)
+    print_report::<Guilds>(&rt)
 }

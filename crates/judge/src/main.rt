@@ -1,9 +1,9 @@
 #![tactic(auto)]
 
-use reports::judgement::report_judgement;
-use reports::printing::print_report;
+use reports::judgement::Judgements;
+use reports::reporting::print_report;
 
 // Reads a statement text from standard input and prints its judgement, or the line of its refusal.
 fn main(rt: HostRuntime) -> anyhow::Result<()> {
-    print_report(&rt, report_judgement)
+    print_report::<Judgements>(&rt)
 }

@@ -1,11 +1,11 @@
 -- What program `guilds` prints for a statement text.
 use Rattle.std.specs.Prelude.{◌≡◌, ℕ, zero, suc, ◌^◌, cond, List, [], ◌∷◌, ◌++◌, codes}
-use Rattle.trust.specs.Refusals.{refusal_number}
 use Rattle.trust.specs.Statements.{meant}
 use Rattle.trust.specs.Trust.{Trust, sound}
 use Rattle.trust.specs.Sorting.{wise_mask, naive_mask, max_guild}
-use Rattle.text.specs.Outcomes.{ByText}
+use Rattle.trust.specs.declared.statement.Statement.{Statement}
 use Rattle.reports.specs.Written.{row_bytes, refused_bytes}
+use Rattle.reports.specs.Reporting.{ReportsOn}
 
 -- the nodes sorted for a faulty set
 abbrev pub row_of : Trust → ℕ → List ℕ
@@ -23,6 +23,10 @@ rows_to t (suc k) = rows_to t k ++ row_of t (2 ^ k)
 abbrev pub table_of : Trust → List ℕ
 table_of t = cond (sound t) (rows_to t t.size) (refused_bytes 9 0)
 
+-- what is written of a statement: its table
+abbrev pub SaysTable : Statement → List ℕ → Type 0
+SaysTable s out = out ≡ table_of (meant s)
+
 -- the table of the statement that the text gives, or the refusal of its first bad line
 abbrev pub Reports : List ℕ → List ℕ → Type 0
-Reports text out = ByText text (λ s. out ≡ table_of (meant s)) (λ e line. out ≡ refused_bytes (refusal_number e) line)
+Reports text out = ReportsOn SaysTable text out

@@ -4,11 +4,10 @@ use Rattle.std.specs.Option.{option_map}
 use Rattle.sets.specs.declared.Node.{Node}
 use Rattle.trust.specs.declared.judging.Judgement.{Judgement}
 use Rattle.trust.specs.Judging.{Judged}
-use Rattle.trust.specs.Refusals.{refusal_number}
 use Rattle.trust.specs.Statements.{meant}
 use Rattle.trust.specs.Trust.{Trust, sound}
-use Rattle.text.specs.Outcomes.{ByText}
-use Rattle.reports.specs.Written.{refused_bytes}
+use Rattle.trust.specs.declared.statement.Statement.{Statement}
+use Rattle.reports.specs.Reporting.{ReportsOn}
 
 -- a verdict as it is written: all pass, or the first that does not
 abbrev pub verdict_words : {T : Type 0} → (T → Option (List ℕ)) → Option T → Option (List ℕ)
@@ -34,7 +33,10 @@ judgement_bytes t j =
     codes "B3: " ++ (pair_bytes j.b3 ++ ((10 ∷ codes "consistency: ") ++ (pair_bytes j.consistency
     ++ ((10 ∷ codes "availability: ") ++ (node_bytes j.availability ++ ((10 ∷ codes "sound: ") ++ (yes_bytes (sound t) ++ (10 ∷ []))))))))
 
+-- what is written of a statement: its judgement
+abbrev pub SaysJudgement : Statement → List ℕ → Type 0
+SaysJudgement s out = (j : Judgement) × Judged (meant s) j × (out ≡ judgement_bytes (meant s) j)
+
 -- the judgement of the statement that the text gives, or the refusal of its first bad line
 abbrev pub Judges : List ℕ → List ℕ → Type 0
-Judges text out =
-    ByText text (λ s. (j : Judgement) × Judged (meant s) j × (out ≡ judgement_bytes (meant s) j)) (λ e line. out ≡ refused_bytes (refusal_number e) line)
+Judges text out = ReportsOn SaysJudgement text out

@@ -1,3 +1,4 @@
 pub mod Written
+pub mod Reporting
 pub mod Guilds
 pub mod Judgements

@@ -1,29 +1,17 @@
 ghost use Rattle.std.specs.Prelude.{◌≡◌, ℕ, ◌^◌, ◌<◌, true, ◌++◌, IfOk, string_bytes, OnOk};
 ghost use Rattle.sets.specs.Sets.{set?};
-ghost use Rattle.trust.specs.Refusals.{refusal_number};
 ghost use Rattle.trust.specs.Trust.{sound};
-ghost use Rattle.reports.specs.Written.{refused_bytes};
-ghost use Rattle.reports.specs.Guilds.{row_of, table_of, Reports};
+ghost use Rattle.reports.specs.Guilds.{row_of, table_of, SaysTable, Reports};
 
+use crate::reporting::{Report, refused_line, report_on};
 use crate::written::Row;
 use sets::NodeSet;
 use std::alloc::{AllocError, Global};
 use std::fmt::Write;
-use text::reading::statement_of;
 use trust::refusal::Refusal;
 use trust::rule::TrustRule;
 use trust::sorting::sort;
-
-// The one line of a refusal.
-pub(crate) fn refused_line(
-    heap: Global,
-    refusal: Refusal,
-    line: usize,
-) -> Result<String, AllocError>
-    ensures { IfOk result (λ out. string_bytes out ≡ refused_bytes (refusal_number refusal) line) }
-{
-    format!(in heap; "{refusal} {line}\n")
-}
+use trust::statement::Statement;
 
 // Node k + 1 alone.
 fn single(k: u32) -> NodeSet
@@ -58,13 +46,20 @@ fn table<R: TrustRule>(heap: Global, rule: &R) -> Result<String, AllocError>
     Ok(out)
 }
 
-// What program `guilds` prints for a statement text. `judge` has a function of the same two arms:
-// one that takes the report would have to say by a predicate what these two say of their bytes.
+// The report of program `guilds`: the table of a statement.
+pub struct Guilds;
+
+impl Report for Guilds {
+    ghost says = { SaysTable };
+
+    fn of_statement(heap: Global, statement: &Statement) -> Result<String, AllocError> {
+        table(heap, statement)
+    }
+}
+
+// What program `guilds` prints for a statement text.
 pub fn report(heap: Global, text: &[u8]) -> Result<String, AllocError>
     ensures { IfOk result (λ out. Reports text.now (string_bytes out)) }
 {
-    match statement_of(text) {
-        Ok(statement) => table(heap, &statement),
-        Err(fault) => refused_line(heap, fault.refusal, fault.line),
-    }
+    report_on::<Guilds>(heap, text)
 }

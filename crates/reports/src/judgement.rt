@@ -1,13 +1,12 @@
 ghost use Rattle.std.specs.Prelude.{◌≡◌, ◌∷◌, ◌++◌, IfOk, Some, string_bytes, decimal};
 ghost use Rattle.trust.specs.Judging.{Judged};
 ghost use Rattle.trust.specs.Statements.{meant};
-ghost use Rattle.reports.specs.Judgements.{verdict_words, pair_bytes, yes_bytes, judgement_bytes, Judges};
+ghost use Rattle.reports.specs.Judgements.{verdict_words, pair_bytes, yes_bytes, judgement_bytes, SaysJudgement, Judges};
 
-use crate::guilds::refused_line;
+use crate::reporting::{Report, report_on};
 use sets::Node;
 use std::alloc::{AllocError, Global};
 use std::fmt;
-use text::reading::statement_of;
 use trust::judging::Judgement;
 use trust::rule::TrustRule;
 use trust::statement::Statement;
@@ -67,12 +66,20 @@ fn judgement_text(heap: Global, statement: &Statement) -> Result<String, AllocEr
     )
 }
 
+// The report of program `judge`: the judgement of a statement.
+pub struct Judgements;
+
+impl Report for Judgements {
+    ghost says = { SaysJudgement };
+
+    fn of_statement(heap: Global, statement: &Statement) -> Result<String, AllocError> {
+        judgement_text(heap, statement)
+    }
+}
+
 // What program `judge` prints for a statement text.
 pub fn report_judgement(heap: Global, text: &[u8]) -> Result<String, AllocError>
     ensures { IfOk result (λ out. Judges text.now (string_bytes out)) }
 {
-    match statement_of(text) {
-        Ok(statement) => judgement_text(heap, &statement),
-        Err(fault) => refused_line(heap, fault.refusal, fault.line),
-    }
+    report_on::<Judgements>(heap, text)
 }

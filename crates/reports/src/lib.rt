@@ -2,5 +2,5 @@
 
 pub mod guilds;
 pub mod judgement;
-pub mod printing;
+pub mod reporting;
 pub mod written;

@@ -1,6 +1,5 @@
-use Rattle.std.proofs.Common.{◌≡◌, ℕ, zero, suc, ◌<◌, ◌≤◌, List, [], ◌∷◌, ◌++◌, map, length, take, drop, get_or, sym, refl, ap, ◌∙◌, ap₂, add-one, append-nil, arith}
+use Rattle.std.proofs.Common.{◌≡◌, ℕ, zero, suc, ◌<◌, List, [], ◌∷◌, ◌++◌, map, length, take, drop, get_or, sym, refl, ap, ◌∙◌, ap₂, add-one, arith}
 use Rattle.std.specs.Prelude.{slice_set}
-use Rattle.std.proofs.lemmas.List.{take_all, drop_all}
 use Rattle.text.specs.Drafts.{complete}
 use Rattle.text.proofs.draft.Draft.completed.Goals as goal
 
@@ -16,9 +15,6 @@ one_more f [] i d l = absurd (omega arith)
 one_more f (x ∷ xs) zero d l = refl
 one_more f (x ∷ xs) (suc i) d l = ap (λ ys. f x ∷ ys) (one_more f xs i d (omega arith))
 
-pub loop-node-init : goal.loop-node-init
-loop-node-init c = refl
-
 pub loop-node-preserved : goal.loop-node-preserved
 loop-node-preserved c =
     let d = c.args.self in
@@ -27,10 +23,3 @@ loop-node-preserved c =
     ap₂ (λ ys v. slice_set ys i v) c.loop-node.invariant
     (c.complete.ensures ∙ ap (λ ys. complete d.nodes (get_or ys i x)) c.loop-node.invariant ∙ ap (complete d.nodes) (item (complete d.nodes) d.trust i x))
     ∙ one_more (complete d.nodes) d.trust i x (omega (arith, d.places)) ∙ ap (λ k. map (complete d.nodes) (take k d.trust) ++ drop k d.trust) (sym (add-one i))
-
-pub returns : goal.returns
-returns c =
-    let d = c.args.self in
-    let i = c.loop-node.node-index in
-    let all : length d.trust ≤ i = omega (arith, d.places) in
-    c.loop-node.invariant ∙ ap₂ (λ xs ys. map (complete d.nodes) xs ++ ys) (take_all i d.trust all) (drop_all i d.trust all) ∙ append-nil (map (complete d.nodes) d.trust)

@@ -2,7 +2,7 @@ use Rattle.std.proofs.Common.{◌≡◌, ap, ◌∙◌, arith}
 use Rattle.broadcast.specs.Slots.{record_at}
 use Rattle.runs.specs.Readings.{meant_at, held, of_account}
 use Rattle.panel.specs.Boards.{state_on}
-use Rattle.panel.proofs.Tallies.{tally_none, tally_all, tally_other, tally_counted, tally_left_out}
+use Rattle.panel.proofs.Tallies.{tally_none, tally_other, tally_counted, tally_left_out}
 use Rattle.panel.proofs.board.tallying.Deliveries.tally.Goals as goal
 use Rattle.panel.proofs.board.tallying.Deliveries.tally.Goals.{then-is_of+then-is_counted, then-is_of+else-is_counted, else-is_of}
 
@@ -38,8 +38,3 @@ loop-number-preserved g c =
         omega (arith, w.left_out-is),
       )
     ]
-
-pub returns : goal.returns
-returns g c =
-    tally_all g.V.ValueKind.values (state_on c.args.self.now.board.now c.args.self.now.row.now) c.args.self.now.node.node.0 c.args.account _
-    c.loop-number.number c.args.slots c.loop-number.invariant.0 c.loop-number.auto.number-end c.loop-number-test.false

@@ -1,6 +1,0 @@
-use Rattle.std.proofs.Common.{inl}
-use Rattle.std.proofs.lemmas.Result.{IfOk-weaker}
-use Rattle.reports.proofs.judgement.report_judgement.Goals as goal
-
-pub returns-in-Ok : goal.returns-in-Ok
-returns-in-Ok c = IfOk-weaker c.judgement_text.result _ _ (λ out is. inl (c.in-Ok.statement, c.in-Ok.ensures, is)) c.judgement_text.ensures

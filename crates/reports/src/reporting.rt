@@ -1,0 +1,51 @@
+ghost use Rattle.std.specs.Prelude.{◌≡◌, ℕ, List, IfOk, OnOk, string_bytes};
+ghost use Rattle.trust.specs.Refusals.{refusal_number};
+ghost use Rattle.trust.specs.declared.statement.Statement.{Statement};
+ghost use Rattle.reports.specs.Written.{refused_bytes};
+ghost use Rattle.reports.specs.Reporting.{ReportsOn};
+
+use std::alloc::{AllocError, Global};
+use std::io::Read;
+use text::reading::statement_of;
+use trust::refusal::Refusal;
+use trust::statement::Statement;
+
+// What a program writes of a statement.
+pub trait Report {
+    ghost says: { Statement → List ℕ → Type 0 };
+
+    fn of_statement(heap: Global, statement: &Statement) -> Result<String, AllocError>
+        ensures { IfOk result (λ out. says statement.now (string_bytes out)) };
+}
+
+// The one line of a refusal.
+pub(crate) fn refused_line(
+    heap: Global,
+    refusal: Refusal,
+    line: usize,
+) -> Result<String, AllocError>
+    ensures { IfOk result (λ out. string_bytes out ≡ refused_bytes (refusal_number refusal) line) }
+{
+    format!(in heap; "{refusal} {line}\n")
+}
+
+// The report on the statement that a text gives, or the line of the text's refusal.
+pub fn report_on<R: Report>(heap: Global, text: &[u8]) -> Result<String, AllocError>
+    ensures { IfOk result (λ out. ReportsOn R.says text.now (string_bytes out)) }
+{
+    match statement_of(text) {
+        Ok(statement) => R::of_statement(heap, &statement),
+        Err(fault) => refused_line(heap, fault.refusal, fault.line),
+    }
+}
+
+// Reads a text from standard input and prints the report on it. No clause can say what is read or printed.
+pub fn print_report<R: Report>(rt: &(impl Input + Print + AllocGlobal)) -> anyhow::Result<()>
+    ensures { OnOk result ((text : List ℕ) × (out : List ℕ) × ReportsOn R.says text out) }
+{
+    let mut text = Vec::new(rt.alloc());
+    rt.reader().read_to_end(&mut text)?;
+    let out = report_on::<R>(rt.alloc(), text.as_slice())?;
+    rt.print(out.as_str())?;
+    Ok(())
+}
