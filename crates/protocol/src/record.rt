@@ -46,7 +46,7 @@ impl fmt::Display for Heard {
     }
 }
 
-// The nodes recorded with a value.
+// The nodes recorded with a value. A fold of the entries that `filter` lets through was tried: what it returns was not proved.
 fn recorded_with(entries: &[Option<Place>; 16], place: Place) -> NodeSet
     ensures { result.0 ≡ recorded_with entries.now place }
 {
@@ -114,6 +114,7 @@ impl Record {
         if !from.is_among(rule.size()) {
             return Heard::Ignored;
         }
+        // Here, beside the test: an index function of `Node` would have to answer an Option, or ask for a node above 0.
         let at = (from.0 - 1) as usize;
         match (kind, self.echoed, self.echoes[at], self.readies[at]) {
             (Kind::Send, None, _, _) if from == sender => {

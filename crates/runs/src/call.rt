@@ -6,6 +6,7 @@ use std::fmt;
 use trust::refusal::Refusal;
 
 // What a host asks of an open panel. Any number may be passed for a slot, a node and a kind.
+// A message is four numbers, as in the panel's calls: a C host passes them one by one, and only a panel knows their ranges.
 #[derive(Clone, Copy)]
 pub enum Call<V> {
     // A slot's correct sender sends a value to every node.
@@ -55,7 +56,7 @@ impl fmt::Display for Outcome {
 // What a call is answered.
 pub type Answer = Result<Outcome, Refusal>;
 
-// A call of a list, and beside it its answer once it was made.
+// A call of a list, and beside it its answer once it was made. No Option, which every reader of a played list would have to open.
 #[derive(Clone, Copy)]
 pub struct Entry<V> {
     pub call: Call<V>,

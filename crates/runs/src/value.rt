@@ -5,7 +5,7 @@ ghost use Rattle.runs.specs.Values.{Values};
 pub trait ValueKind {
     ghost values: { Values Self };
 
-    // Two values mean the same.
+    // Two values mean the same. Not `PartialEq`: a host's kind may hold more than it means.
     fn same(&self, other: &Self) -> bool
         ensures { result ≡ values.same (values.meaning self.now) (values.meaning other.now) };
 

@@ -16,7 +16,8 @@ pub struct Sorted {
     pub guild: NodeSet,
 }
 
-// Those of the nodes 1 to n that pass.
+// Those of the nodes 1 to n that pass. A fold of those that `filter` lets through was tried: what it returns was not proved.
+// It stands here and not in `sets`, where it would be public, since it asks for a closure that may be called.
 fn nodes_where<F: Fn(Node) -> bool>(n: u32, passes: F) -> NodeSet
     requires few { n ≤ 16 }
     requires callable { F.IsAlwaysCallable passes }

@@ -25,7 +25,7 @@ impl Threshold {
     pub fn new(n: u32, f: u32, q: u32) -> Result<Threshold, Refusal>
         ensures { elim result [ Ok x ↦ Counts n f q × (x.n ≡ n) × (x.f ≡ f) × (x.q ≡ q) | Err e ↦ (Counts n f q → ⊥) × (e ≡ Refusal.Range) ] }
     {
-        if !Node(n).is_among(16) || f > 16 || q > 16 {
+        if n == 0 || n > 16 || f > 16 || q > 16 {
             return Err(Refusal::Range);
         }
         Ok(Threshold { n, f, q })

@@ -9,7 +9,7 @@ use runs::call::Counts;
 use sets::Node;
 
 // How many of the nodes 1 to n pass.
-// A loop, as in `count_kind`: nothing tells a chain's closure that its number is one of 1 to 16, and that proof did not close.
+// A loop, as in `count_kind`, and no `nodes_where` of trust, which is private there: nothing tells a chain's closure that its number is one of 1 to 16, and that proof did not close.
 fn count<F: Fn(Member) -> bool>(n: u32, test: F) -> u32
     requires few { n ≤ 16 }
     requires callable { F.IsAlwaysCallable test }
@@ -37,9 +37,8 @@ impl<'b> Broadcast<'b> {
         for k in 0..parties.size {
             let from = Member { node: Node(k + 1) };
             passed += count(parties.size, |to| {
-                parties.is_correct(from.node)
-                    && parties.is_correct(to.node)
-                    && test(Route { kind, from, to })
+                let route = Route { kind, from, to };
+                parties.join(route) && test(route)
             });
         }
         passed

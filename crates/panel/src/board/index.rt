@@ -21,7 +21,7 @@ pub(crate) struct Member {
     ghost low: { node.0 ≤ 16 },
 }
 
-// What kind of message goes from which node to which.
+// What kind of message goes from which node to which. Its slot is not here, since a slot's counts go through all of its routes.
 #[derive(Clone, Copy)]
 pub(crate) struct Route {
     pub kind: Kind,

@@ -47,11 +47,7 @@ impl<'b> Broadcast<'b> {
     pub(crate) fn waiting(&self, route: Route) -> Option<Place>
         ensures { result ≡ waiting (setting_of self.now) self.now.slot.now route.kind route.from.node.0 route.to.node.0 }
     {
-        let parties = self.parties;
-        if !parties.is_correct(route.from.node) || !parties.is_correct(route.to.node) {
-            return None;
-        }
-        if self.taken(route).is_some() {
+        if !self.parties.join(route) || self.taken(route).is_some() {
             return None;
         }
         self.said(route.kind, route.from)

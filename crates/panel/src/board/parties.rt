@@ -1,6 +1,7 @@
 ghost use Rattle.std.specs.Prelude.{◌≡◌, ◌≤◌, not, ◌&&◌};
 ghost use Rattle.sets.specs.Sets.{node?, has};
 
+use super::index::Route;
 use protocol::slot::Slot;
 use sets::{Node, NodeSet};
 
@@ -26,5 +27,12 @@ impl Parties {
         ensures { result ≡ (node? self.size node.0 && not (has self.faulty.0 node.0)) }
     {
         node.is_among(self.size) && !self.faulty.has(node)
+    }
+
+    // Both ends of the route are correct.
+    pub(crate) fn join(self, route: Route) -> bool
+        ensures { result ≡ ((node? self.size route.from.node.0 && not (has self.faulty.0 route.from.node.0)) && (node? self.size route.to.node.0 && not (has self.faulty.0 route.to.node.0))) }
+    {
+        self.is_correct(route.from.node) && self.is_correct(route.to.node)
     }
 }

@@ -50,7 +50,7 @@ impl<'v, V: ValueKind> Deliveries<'v, V> {
             .all(|lower| !self.makes_claim(lower, value))
     }
 
-    // The delivery in a slot counts.
+    // The delivery in a slot counts. `is_some_and`, as above, was tried: what it returns was not proved.
     fn is_counted(&self, slot: SlotIndex) -> bool
         ensures { result ≡ counts? V.values (state_on self.now.board.now self.now.row.now) self.now.node.node.0 slot.number }
     {
@@ -61,7 +61,7 @@ impl<'v, V: ValueKind> Deliveries<'v, V> {
     }
 
     // Of the deliveries of the account in the first slots, how many count and how many are left out.
-    // A loop, since two chains, one for each number, would look each delivery up twice.
+    // A loop, since two chains would look each delivery up twice, and nothing bounds the sums of a fold: that proof did not close.
     pub(crate) fn tally(&self, slots: u32, account: u16) -> (u32, u32)
         requires { slots ≤ 16 }
         ensures { result ≡ tally_of V.values (of_slots slots) (state_on self.now.board.now self.now.row.now) self.now.node.node.0 account }

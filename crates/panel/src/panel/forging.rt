@@ -70,7 +70,7 @@ impl<'r, R: TrustRule> Panel<'r, R> {
         ensures { Hands R.meaning self.old kind slot from to result self.new }
     {
         let (slot, route) = self.route(kind, slot, from, to)?;
-        if !self.is_correct(route.from.node) || !self.is_correct(route.to.node) {
+        if !self.parties().join(route) {
             return Err(Refusal::WrongParty);
         }
         let place = self.waiting(slot, route).ok_or(Refusal::NotWaiting)?;

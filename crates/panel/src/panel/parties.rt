@@ -17,7 +17,7 @@ use trust::rule::TrustRule;
 
 impl<'r, R: TrustRule> Panel<'r, R> {
     // The rule's nodes, and which of them are faulty.
-    fn parties(&self) -> Parties
+    pub(super) fn parties(&self) -> Parties
         ensures size { result.size ≡ (R.meaning self.now.rule.now).size }
         ensures faulty { result.faulty ≡ self.now.faulty }
     {

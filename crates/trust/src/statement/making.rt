@@ -40,7 +40,7 @@ impl Statement {
     pub fn new(nodes: u32, trust: [NodeTrust; 16]) -> Result<Statement, Refusal>
         ensures { elim result [ Ok x ↦ (unfit nodes trust ≡ None) × (x.nodes ≡ nodes) × (x.trust ≡ trust) | Err e ↦ unfit nodes trust ≡ Some e ] }
     {
-        if !Node(nodes).is_among(16) {
+        if nodes == 0 || nodes > 16 {
             return Err(Refusal::Range);
         }
         let stated = &trust[..nodes as usize];
