@@ -1,15 +1,15 @@
 #![tactic(auto)]
 
-use anyhow::Context;
+use anyhow::{Context, bail};
 use kinds::issue::Issue;
 use panel::panel::Panel;
+use protocol::message::Kind;
 use runs::call::{Call, Entry, Outcome};
 use sets::{Node, NodeSet};
 use std::alloc::{AllocError, Global};
-use text::reading::read_statement;
+use text::reading::statement_of;
 use trust::rule::TrustRule;
 use trust::sorting::sort;
-use trust::statement::Statement;
 
 // The statement of five plants; node 4 is the one that lies.
 const TEXT: &[u8] =
@@ -20,6 +20,8 @@ const NODES: u32 = 5;
 const FAULTY: NodeSet = NodeSet(0x0008);
 
 const SLOTS: u32 = 2;
+
+const KINDS: [Kind; 3] = [Kind::Send, Kind::Echo, Kind::Ready];
 
 const ACCOUNT: u16 = 7;
 
@@ -35,7 +37,7 @@ fn renewal(key_print: u64) -> Issue {
     }
 }
 
-// A call of a list, with the answer that stands there until it is made.
+// A call of a list. The panel has no heap and writes each answer into the host's own list, so one stands there before.
 fn entry(call: Call<Issue>) -> Entry<Issue> {
     Entry {
         call,
@@ -43,14 +45,19 @@ fn entry(call: Call<Issue>) -> Entry<Issue> {
     }
 }
 
+// The number that a call has for a kind.
+fn number(kind: Kind) -> u32 {
+    u32::from(u8::from(kind))
+}
+
 fn propose(slot: u32, value: Issue) -> Entry<Issue> {
     entry(Call::Propose { slot, value })
 }
 
 // Node 4 lies to another node.
-fn lie(kind: u32, slot: u32, to: u32, value: Issue) -> Entry<Issue> {
+fn lie(kind: Kind, slot: u32, to: u32, value: Issue) -> Entry<Issue> {
     entry(Call::Forge {
-        kind,
+        kind: number(kind),
         slot,
         from: 4,
         to,
@@ -58,9 +65,9 @@ fn lie(kind: u32, slot: u32, to: u32, value: Issue) -> Entry<Issue> {
     })
 }
 
-fn hand(kind: u32, slot: u32, from: u32, to: u32) -> Entry<Issue> {
+fn hand(kind: Kind, slot: u32, from: u32, to: u32) -> Entry<Issue> {
     entry(Call::Hand {
-        kind,
+        kind: number(kind),
         slot,
         from,
         to,
@@ -70,7 +77,7 @@ fn hand(kind: u32, slot: u32, from: u32, to: u32) -> Entry<Issue> {
 // A hand of every message that there could be: by slot, kind, sender and receiver.
 fn hands(heap: Global) -> Result<Vec<Entry<Issue>>, AllocError> {
     (0..SLOTS)
-        .flat_map(|slot| (1..=3).map(move |kind| (slot, kind)))
+        .flat_map(|slot| KINDS.into_iter().map(move |kind| (slot, kind)))
         .flat_map(|(slot, kind)| (1..=NODES).map(move |from| (slot, kind, from)))
         .flat_map(|(slot, kind, from)| (1..=NODES).map(move |to| hand(kind, slot, from, to)))
         .collect(heap)
@@ -154,11 +161,11 @@ fn calls() -> [Entry<Issue>; 7] {
     [
         propose(0, renewal(1)),
         propose(1, renewal(2)),
-        lie(2, 0, 1, renewal(9)),
-        lie(3, 0, 2, renewal(9)),
-        lie(2, 1, 3, renewal(1)),
-        lie(2, 1, 3, renewal(2)),
-        lie(1, 1, 5, renewal(9)),
+        lie(Kind::Echo, 0, 1, renewal(9)),
+        lie(Kind::Ready, 0, 2, renewal(9)),
+        lie(Kind::Echo, 1, 3, renewal(1)),
+        lie(Kind::Echo, 1, 3, renewal(2)),
+        lie(Kind::Send, 1, 5, renewal(9)),
     ]
 }
 
@@ -178,9 +185,8 @@ fn play<R: TrustRule>(rt: &(impl Print + AllocGlobal), rule: &R) -> anyhow::Resu
 }
 
 fn main(rt: HostRuntime) -> anyhow::Result<()> {
-    let mut statement = Statement::fresh();
-    read_statement(TEXT, &mut statement)
-        .ok()
-        .context("the statement is refused")?;
+    let Ok(statement) = statement_of(TEXT) else {
+        bail!("the statement is refused");
+    };
     play(&rt, &statement)
 }

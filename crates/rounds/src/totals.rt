@@ -26,8 +26,8 @@ impl Totals {
         self.waiting = self.waiting.wrapping_add(u64::from(counts.waiting));
     }
 
-    pub(crate) fn add_delivery(&mut self) {
-        self.delivered = self.delivered.wrapping_add(1);
+    pub(crate) fn add_deliveries(&mut self, delivered: usize) {
+        self.delivered = self.delivered.wrapping_add(delivered as u64);
     }
 
     pub(crate) fn add_tally(&mut self, counted: u32, left_out: u32) {

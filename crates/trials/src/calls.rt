@@ -100,7 +100,7 @@ impl<'r, R: TrustRule, V: Written> Host<'r, R, V> {
                 let roll = self.row.get(..number(roll)?)?;
                 let tally = panel.tally(roll, number(node)?, number(account)?);
                 tally.map_or_else(Said::Refused, |(counted, left_out)| {
-                    Said::Tally(counted, left_out)
+                    Said::Tally { counted, left_out }
                 })
             }
         })

@@ -56,18 +56,18 @@ pub enum Verb {
 }
 
 // What stands before a step whose answer must not be the one written: it shows that a run sees a wrong answer.
-const UNLIKE: &str = "unlike ";
+pub(crate) const UNLIKE: &str = "unlike ";
 
-// A line of a trial file that says something: its number, its mark, what it asks for, the step, and the answer that is written beside it.
+// A line of a trial file that says something: its number, what it asks for, the step, and the answer that is written beside it.
 #[derive(Clone, Copy)]
 pub struct Line<'t> {
     pub number: usize,
-    // UNLIKE, or nothing.
-    pub mark: &'t str,
+    // The answer must not be the one written.
+    pub is_unlike: bool,
     // None where the line cannot be read.
     pub verb: Option<Verb>,
     pub step: &'t str,
-    pub expected: &'t str,
+    pub expected: Option<&'t str>,
 }
 
 impl Verb {
@@ -106,27 +106,27 @@ impl Verb {
 impl<'t> Line<'t> {
     fn new(number: usize, text: &'t str) -> Line<'t> {
         match text.strip_prefix(UNLIKE) {
-            Some(rest) => Line::marked(number, UNLIKE, rest),
-            None => Line::marked(number, "", text),
+            Some(rest) => Line::marked(number, true, rest),
+            None => Line::marked(number, false, text),
         }
     }
 
     // Only a case and a roll stand without an answer.
-    fn marked(number: usize, mark: &'t str, text: &'t str) -> Line<'t> {
+    fn marked(number: usize, is_unlike: bool, text: &'t str) -> Line<'t> {
         match text.split_once(" => ") {
             Some((step, expected)) => Line {
                 number,
-                mark,
+                is_unlike,
                 verb: Verb::of_step(step),
                 step,
-                expected,
+                expected: Some(expected),
             },
             None => Line {
                 number,
-                mark,
+                is_unlike,
                 verb: Verb::of_step(text).filter(|verb| matches!(verb, Verb::Case | Verb::Roll)),
                 step: text,
-                expected: "",
+                expected: None,
             },
         }
     }

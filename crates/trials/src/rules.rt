@@ -50,6 +50,14 @@ fn add(trust: &mut [NodeTrust; 16], entry: &str) -> Option<()> {
     }
 }
 
+// A rule from a statement. It is no `map`: over a statement that is a form that the prover does not build yet.
+fn by_statement<E>(made: Result<Statement, E>) -> Result<Rule, E> {
+    match made {
+        Ok(statement) => Ok(Rule::Listed(statement)),
+        Err(fault) => Err(fault),
+    }
+}
+
 // A statement made from lists.
 fn listed(fields: &[&str]) -> Option<Result<Rule, Refusal>> {
     let (count, entries) = fields.split_first()?;
@@ -57,11 +65,7 @@ fn listed(fields: &[&str]) -> Option<Result<Rule, Refusal>> {
     for entry in entries {
         add(&mut trust, entry)?;
     }
-    // `map` over a statement is a form that the prover does not build yet.
-    Some(match Statement::new(number(count)?, trust) {
-        Ok(statement) => Ok(Rule::Listed(statement)),
-        Err(refusal) => Err(refusal),
-    })
+    Some(by_statement(Statement::new(number(count)?, trust)))
 }
 
 fn threshold(fields: &[&str]) -> Option<Result<Rule, Refusal>> {
@@ -77,10 +81,8 @@ fn read(heap: Global, fields: &[&str]) -> Result<Result<Rule, Said>, AllocError>
     let Some(bytes) = decode(heap, word)? else {
         return Ok(Err(Said::Unreadable));
     };
-    Ok(match statement_of(bytes.as_slice()) {
-        Ok(statement) => Ok(Rule::Listed(statement)),
-        Err(fault) => Err(fault.into()),
-    })
+    let made = by_statement(statement_of(bytes.as_slice()));
+    Ok(made.map_err(|fault| fault.into()))
 }
 
 // Makes the rule of a line, or says why there is none.

@@ -32,7 +32,10 @@ pub enum Said {
     Answered(Answer),
     Receipt(Option<Place>),
     Counts(Counts),
-    Tally(u32, u32),
+    Tally {
+        counted: u32,
+        left_out: u32,
+    },
     Issue(Issue),
     Withdrawal(Withdrawal),
 }
@@ -60,7 +63,7 @@ impl From<Withdrawal> for Said {
     }
 }
 
-// Two nodes, as they are written.
+// Two nodes, as they are written. Crate reports has other words: types for both would take them as parameters, which is no plainer.
 #[derive(Clone, Copy)]
 struct Pair(Node, Node);
 
@@ -147,7 +150,7 @@ impl fmt::Display for Said {
             Said::Receipt(Some(place)) => write!(f, "place {}", place.0),
             Said::Receipt(None) => f.write_str("absent"),
             Said::Counts(counts) => write!(f, "{}", Counted(counts)),
-            Said::Tally(counted, left_out) => write!(f, "{counted} {left_out}"),
+            Said::Tally { counted, left_out } => write!(f, "{counted} {left_out}"),
             Said::Issue(issue) => write!(f, "{}", Fields(issue)),
             Said::Withdrawal(withdrawal) => write!(f, "{}", withdrawal.serial),
         }

@@ -1,4 +1,4 @@
-use crate::line::Line;
+use crate::line::{Line, UNLIKE};
 use crate::said::Said;
 use std::fmt;
 
@@ -24,14 +24,16 @@ impl Score {
     ) -> anyhow::Result<()> {
         let answer = said.to_string(rt.alloc())?;
         self.answers = self.answers.saturating_add(1);
-        let is_same = answer.as_str() == line.expected;
-        if is_same == line.mark.is_empty() {
+        let is_same = line.expected == Some(answer.as_str());
+        if is_same != line.is_unlike {
             return Ok(());
         }
         self.differ = self.differ.saturating_add(1);
+        let mark = if line.is_unlike { UNLIKE } else { "" };
+        let expected = line.expected.unwrap_or("");
         println!(rt;
-            "line {}: {}{} => {answer}, not {}",
-            line.number, line.mark, line.step, line.expected
+            "line {}: {mark}{} => {answer}, not {expected}",
+            line.number, line.step
         )?;
         Ok(())
     }

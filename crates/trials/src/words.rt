@@ -18,6 +18,7 @@ where
 }
 
 // The value of a hexadecimal digit with a small letter.
+// This and `mask` are not those of crate text: the cases test its reader, and a fault of it must not stand on both sides.
 fn hex(digit: u8) -> Option<u8> {
     if digit.is_ascii_uppercase() {
         return None;
