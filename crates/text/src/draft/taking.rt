@@ -43,7 +43,7 @@ impl Draft {
         ensures { result ≡ in_range? self.now.nodes next }
     {
         match next {
-            Record::Count(count) => count >= 1 && count <= 16,
+            Record::Count(count) => (1..=16).contains(&count),
             Record::Listed(e) => self.nodes == 0 || e.is_in_range(self.nodes),
         }
     }
