@@ -43,13 +43,13 @@ nothing_said d (r ∷ before) kept z =
     let zero : counted d ≡ 0 = ap (λ o. unwrap_or o 0) z in
     let some = leb-true 1 (counted d) (ap (begun? (counted d)) (sym kept.newest) ∙ d.begun) in absurd (omega arith)
 
-something_said : (d : Draft) (before : List Record) → Kept d before → ((counted d) ≡ 0 → ⊥) → none? before ≡ false
+something_said : (d : Draft) (before : List Record) → Kept d before → (counted d ≡ 0 → ⊥) → none? before ≡ false
 something_said d [] kept nz = absurd (nz kept.nodes)
 something_said d (r ∷ before) kept nz = refl
 
 module _ (d : Draft) (before : List Record) (kept : Kept d before) (nz : (counted d) ≡ 0 → ⊥) where
   abbrev n : ℕ
-  n = (counted d)
+  n = counted d
 
   abbrev ts : List NodeTrust
   ts = map (complete n) d.trust

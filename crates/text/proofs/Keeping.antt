@@ -112,7 +112,7 @@ fit_more d [] kept (Count c) range order role k = refl
 fit_more d (p ∷ before) kept (Count c) range order role k = absurd (false≢true (ap (λ o. in_order? o (Count c)) (sym kept.newest) ∙ order))
 fit_more d before kept (Listed e) range order role k =
     let (_, _, fits) = entry_fits (counted d) d.newest e d.few d.begun range order in
-    all_of_both (λ x. ltb x (2 ^ (counted d))) (said role (suc k) before) (own role (suc k) (Listed e)) (kept.fit role k) (own_fits (counted d) role (suc k) e fits)
+    all_of_both (λ x. ltb x (2 ^ counted d)) (said role (suc k) before) (own role (suc k) (Listed e)) (kept.fit role k) (own_fits (counted d) role (suc k) e fits)
 
 pub kept_more : (d d' : Draft) (before : List Record) (r : Record) → Kept d before → placed (counted d) d.newest r ≡ Ok tt → Noted d r d' → Kept d' (r ∷ before)
 kept_more d d' before r kept is noted =
