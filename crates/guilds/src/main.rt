@@ -1,9 +1,11 @@
 #![tactic(auto)]
 
 use reports::guilds::Guilds;
-use reports::reporting::print_report;
+use reports::reporting::report_on_input;
 
 // Reads a statement text from standard input and prints its table of guilds, or the line of its refusal.
 fn main(rt: HostRuntime) -> anyhow::Result<()> {
-    print_report::<Guilds>(&rt)
+    let out = report_on_input::<Guilds>(&rt)?;
+    rt.print(out.as_str())?;
+    Ok(())
 }

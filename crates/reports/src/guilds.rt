@@ -1,25 +1,17 @@
-ghost use Rattle.std.specs.Prelude.{◌≡◌, ℕ, ◌^◌, ◌<◌, true, ◌++◌, IfOk, string_bytes, OnOk};
+ghost use Rattle.std.specs.Prelude.{◌≡◌, true, ◌++◌, IfOk, string_bytes, OnOk};
 ghost use Rattle.sets.specs.Sets.{set?};
 ghost use Rattle.trust.specs.Trust.{sound};
 ghost use Rattle.reports.specs.Guilds.{row_of, table_of, SaysTable, Reports};
 
 use crate::reporting::{Report, refused_line, report_on};
 use crate::written::Row;
-use sets::NodeSet;
+use sets::{Node, NodeSet};
 use std::alloc::{AllocError, Global};
 use std::fmt::Write;
 use trust::refusal::Refusal;
 use trust::rule::TrustRule;
 use trust::sorting::sort;
 use trust::statement::Statement;
-
-// Node k + 1 alone.
-fn single(k: u32) -> NodeSet
-    requires { k < 16 }
-    ensures { result.0 ≡ 2 ^ k }
-{
-    NodeSet(1 << k)
-}
 
 // Adds the row of one faulty set of the rule's nodes.
 fn add_row<R: TrustRule>(out: &mut String, rule: &R, faulty: NodeSet) -> Result<(), AllocError>
@@ -41,7 +33,7 @@ fn table<R: TrustRule>(heap: Global, rule: &R) -> Result<String, AllocError>
     let mut out = String::from_str(heap, "faulty wise naive guild\n")?;
     add_row(&mut out, rule, NodeSet(0))?;
     for k in 0..rule.size() {
-        add_row(&mut out, rule, single(k))?;
+        add_row(&mut out, rule, NodeSet(0).with(Node(k + 1)))?;
     }
     Ok(out)
 }
@@ -57,7 +49,7 @@ impl Report for Guilds {
     }
 }
 
-// What program `guilds` prints for a statement text.
+// What program `guilds` prints for a statement text. This and `report_judgement` stay beside `report_on` for their callers outside: each promise is known by its name.
 pub fn report(heap: Global, text: &[u8]) -> Result<String, AllocError>
     ensures { IfOk result (λ out. Reports text.now (string_bytes out)) }
 {

@@ -1,4 +1,4 @@
-ghost use Rattle.std.specs.Prelude.{◌≡◌, ℕ, List, IfOk, OnOk, string_bytes};
+ghost use Rattle.std.specs.Prelude.{◌≡◌, ℕ, List, IfOk, string_bytes};
 ghost use Rattle.trust.specs.Refusals.{refusal_number};
 ghost use Rattle.trust.specs.declared.statement.Statement.{Statement};
 ghost use Rattle.reports.specs.Written.{refused_bytes};
@@ -39,13 +39,11 @@ pub fn report_on<R: Report>(heap: Global, text: &[u8]) -> Result<String, AllocEr
     }
 }
 
-// Reads a text from standard input and prints the report on it. No clause can say what is read or printed.
-pub fn print_report<R: Report>(rt: &(impl Input + Print + AllocGlobal)) -> anyhow::Result<()>
-    ensures { OnOk result ((text : List ℕ) × (out : List ℕ) × ReportsOn R.says text out) }
+// Reads a text from standard input: the report on it. No clause can say which text is read.
+pub fn report_on_input<R: Report>(rt: &(impl Input + AllocGlobal)) -> anyhow::Result<String>
+    ensures { IfOk result (λ out. (text : List ℕ) × ReportsOn R.says text (string_bytes out)) }
 {
     let mut text = Vec::new(rt.alloc());
     rt.reader().read_to_end(&mut text)?;
-    let out = report_on::<R>(rt.alloc(), text.as_slice())?;
-    rt.print(out.as_str())?;
-    Ok(())
+    Ok(report_on::<R>(rt.alloc(), text.as_slice())?)
 }

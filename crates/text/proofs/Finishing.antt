@@ -1,5 +1,6 @@
 -- At the end of a text the lists of a draft fit or lack a fail-prone set, as its records say.
 use Rattle.std.proofs.Common.{◌≡◌, ℕ, suc, ◌^◌, ◌<◌, ◌≤◌, Bool, true, false, cond, not, ◌&&◌, eqb, ltb, leb, List, [], ◌∷◌, map, length, get_or, take, Some, None, Ok, Err, Result, sym, refl, ap, ◌∙◌, subst, ap₂, ⊎_elim, arith}
+use Rattle.std.specs.Option.{unwrap_or}
 use Rattle.std.proofs.lemmas.Bool.{and_from, cases_Bool, cases_lt, eq-eqb, eqb-true, le-leb, leb-true, lt-ltb, ltb-true, not-true, not_from_false, both_ways, cond-true, cond-false, cond_both}
 use Rattle.sets.specs.Sets.{node?, rest, any_below, all_below}
 use Rattle.sets.specs.Lists.{of_nodes?}
@@ -19,7 +20,7 @@ use Rattle.text.specs.declared.draft.Draft.{Draft}
 use Rattle.text.specs.declared.record.Role.TheVariants.{FailProne, Quorum}
 use Rattle.text.specs.declared.record.Record.{Record}
 use Rattle.text.specs.Reading.{begun?, count_said, said}
-use Rattle.text.specs.Drafts.{sets_at, complete, Kept}
+use Rattle.text.specs.Drafts.{counted, sets_at, complete, Kept}
 use Rattle.text.specs.Outcomes.{none?, lacking?, end_refusal, quorums_said, Finished}
 
 -- rests are sets of the nodes
@@ -31,19 +32,24 @@ turned : {A : Type 0} (b : Bool) (x y : A) → cond (not b) x y ≡ cond b y x
 turned true x y = refl
 turned false x y = refl
 
+-- what making a statement of lists owes
+abbrev Made : ℕ → List NodeTrust → Result Statement Refusal → Type 0
+Made n ts r = elim r as (λ _. Type 0) [ Ok x ↦ (unfit n ts ≡ None) × (x.nodes ≡ n) × (x.trust ≡ ts) | Err e ↦ unfit n ts ≡ Some e ]
+
 -- no count, no record
-pub nothing_said : (d : Draft) (before : List Record) → Kept d before → d.nodes ≡ 0 → none? before ≡ true
+pub nothing_said : (d : Draft) (before : List Record) → Kept d before → d.nodes ≡ None → none? before ≡ true
 nothing_said d [] kept z = refl
 nothing_said d (r ∷ before) kept z =
-    let some = leb-true 1 d.nodes (ap (begun? d.nodes) (sym kept.newest) ∙ d.begun) in absurd (omega arith)
+    let zero : counted d ≡ 0 = ap (λ o. unwrap_or o 0) z in
+    let some = leb-true 1 (counted d) (ap (begun? (counted d)) (sym kept.newest) ∙ d.begun) in absurd (omega arith)
 
-something_said : (d : Draft) (before : List Record) → Kept d before → (d.nodes ≡ 0 → ⊥) → none? before ≡ false
+something_said : (d : Draft) (before : List Record) → Kept d before → (counted d ≡ 0 → ⊥) → none? before ≡ false
 something_said d [] kept nz = absurd (nz kept.nodes)
 something_said d (r ∷ before) kept nz = refl
 
-module _ (d : Draft) (before : List Record) (kept : Kept d before) (nz : d.nodes ≡ 0 → ⊥) where
+module _ (d : Draft) (before : List Record) (kept : Kept d before) (nz : (counted d) ≡ 0 → ⊥) where
   abbrev n : ℕ
-  n = d.nodes
+  n = counted d
 
   abbrev ts : List NodeTrust
   ts = map (complete n) d.trust
@@ -98,11 +104,7 @@ module _ (d : Draft) (before : List Record) (kept : Kept d before) (nz : d.nodes
       ∙ ap₂ (λ xs ys. cond (eqb (length xs) 0) (map (rest n) ys) xs) (kept.sets Quorum k (few k l)) (kept.sets FailProne k (few k l))
       ∙ ap (λ m. cond (eqb (length (said Quorum (suc k) before)) 0) (map (rest m) (said FailProne (suc k) before)) (said Quorum (suc k) before)) kept.nodes
 
-  -- what making a statement of lists owes
-  abbrev Made : List NodeTrust → Result Statement Refusal → Type 0
-  Made ts r = elim r as (λ _. Type 0) [ Ok x ↦ (unfit n ts ≡ None) × (x.nodes ≡ n) × (x.trust ≡ ts) | Err e ↦ unfit n ts ≡ Some e ]
-
-  finished : (r : Result Statement Refusal) → Made ts r → Finished before r
+  finished : (r : Result Statement Refusal) → Made n ts r → Finished before r
   finished (Ok x) (free, nodes_are, trust_is) = (
     sym unfit_is ∙ free,
     record {
@@ -113,5 +115,9 @@ module _ (d : Draft) (before : List Record) (kept : Kept d before) (nz : d.nodes
   )
   finished (Err e) is = sym unfit_is ∙ is
 
-  pub finished_by : (all : List NodeTrust) (r : Result Statement Refusal) → all ≡ ts → Made all r → Finished before r
-  finished_by all r e made = finished r (subst (λ xs. Made xs r) e made)
+pub finished_by : (d : Draft) (before : List Record) → Kept d before → (n : ℕ) → d.nodes ≡ Some n → (all : List NodeTrust) (r : Result Statement Refusal)
+    → all ≡ map (complete n) d.trust → Made n all r → Finished before r
+finished_by d before kept n is all r e made =
+    let same : n ≡ counted d = sym (ap (λ o. unwrap_or o 0) is) in
+    let some : 1 ≤ n = d.no_zero n is in
+    finished d before kept (λ z. absurd (omega arith)) r (subst (λ k. Made k (map (complete k) d.trust) r) same (subst (λ xs. Made n xs r) e made))

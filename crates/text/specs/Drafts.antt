@@ -1,5 +1,6 @@
 -- What a draft holds, as an inner function's contract says it.
 use Rattle.std.specs.Prelude.{◌≡◌, ℕ, suc, ◌-◌, ◌<◌, true, cond, List, ◌∷◌, ◌++◌, map, length, Some, Ok, Err, Option, Result, ◌==◌, slice_index_or}
+use Rattle.std.specs.Option.{unwrap_or}
 use Rattle.sets.specs.Sets.{rest}
 use Rattle.sets.specs.Lists.{of_nodes?}
 use Rattle.trust.specs.declared.refusal.Refusal.{Refusal}
@@ -13,6 +14,10 @@ use Rattle.text.specs.declared.record.Role.{Role}
 use Rattle.text.specs.declared.record.Role.TheVariants.{FailProne, Quorum}
 use Rattle.text.specs.declared.record.Record.{Record}
 use Rattle.text.specs.declared.record.Record.TheVariants.{Count, Listed}
+
+-- how many nodes the N line gave, 0 before it
+abbrev pub counted : Draft → ℕ
+counted d = unwrap_or d.nodes 0
 
 abbrev pub of_role : Role → NodeTrust → List ℕ
 of_role FailProne t = t.fails
@@ -41,16 +46,16 @@ placed n newest r = cond (in_range? n r) (cond (in_order? newest r) (Ok tt) (Err
 
 -- a draft with one record more
 pub record Noted (d : Draft) (r : Record) (d' : Draft) : Type 0 where
-  pub nodes : d'.nodes ≡ count_after d.nodes r
+  pub nodes : counted d' ≡ count_after (counted d) r
   pub newest : d'.newest ≡ Some r
   pub sets : (role : Role) (k : ℕ) → k < 16 → sets_at d' role k ≡ sets_at d role k ++ own role (suc k) r
 
 -- a draft holds what the records before say, and all sets fit the nodes
 pub record Kept (d : Draft) (before : List Record) : Type 0 where
-  pub nodes : d.nodes ≡ count_said before
+  pub nodes : counted d ≡ count_said before
   pub newest : d.newest ≡ newest_of before
   pub sets : (role : Role) (k : ℕ) → k < 16 → sets_at d role k ≡ said role (suc k) before
-  pub fit : (role : Role) (k : ℕ) → of_nodes? d.nodes (said role (suc k) before) ≡ true
+  pub fit : (role : Role) (k : ℕ) → of_nodes? (counted d) (said role (suc k) before) ≡ true
 
 -- what a line did to a draft
 abbrev pub Taken : List Record → LineOf → Result (Unit {0}) Refusal → Draft → Type 0

@@ -1,4 +1,5 @@
 ghost use Rattle.std.specs.Prelude.{◌≡◌, ℕ, ◌≤◌, true, length};
+ghost use Rattle.std.specs.Option.{ForSome, unwrap_or};
 ghost use Rattle.text.specs.Reading.{begun?};
 
 use crate::record::Record;
@@ -8,13 +9,14 @@ mod finishing;
 mod taking;
 
 // The records of a text so far: the count of the N line, the newest record, and each node's sets.
-// The count is 0 before the N line, a count that none gives; an Option would have to be opened wherever a range is asked for.
+// There is no count before the N line, and then no record.
 #[derive(Clone, Copy)]
 pub(crate) struct Draft {
-    nodes: u32,
+    nodes: Option<u32>,
     newest: Option<Record>,
     trust: [NodeTrust; 16],
     ghost places: { length trust ≡ 16 },
-    ghost few: { nodes ≤ 16 },
-    ghost begun: { begun? nodes newest ≡ true },
+    ghost few: { unwrap_or nodes 0 ≤ 16 },
+    ghost no_zero: { ForSome nodes (λ n. 1 ≤ n) },
+    ghost begun: { begun? (unwrap_or nodes 0) newest ≡ true },
 }

@@ -24,12 +24,7 @@ fn first_field(bytes: &[u8]) -> &[u8]
 fn after_field(bytes: &[u8]) -> Option<&[u8]>
     ensures { elim result [ Some x ↦ after_field bytes.now ≡ Some x.now | None ↦ after_field bytes.now ≡ None ] }
 {
-    let end = run_before(bytes, b'\t');
-    if end < bytes.len() {
-        Some(&bytes[end + 1..])
-    } else {
-        None
-    }
+    bytes.get(run_before(bytes, b'\t') + 1..)
 }
 
 // 0, or one or two digits that do not begin with 0.

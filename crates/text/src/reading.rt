@@ -38,7 +38,7 @@ pub fn statement_of(text: &[u8]) -> Result<Statement, Fault<'_>>
     Ok(statement)
 }
 
-// Reads a text into a statement. A refused text leaves the statement as it was.
+// Reads a text into a statement that the caller keeps, in place; beside `statement_of`, since a refused text leaves the statement as it was.
 pub fn read_statement<'t>(text: &'t [u8], statement: &mut Statement) -> Result<(), Fault<'t>>
     ensures { elim result [ Ok _ ↦ Accepts text.now statement.new | Err f ↦ Refuses text.now f.refusal f.line f.at f.part.now × (statement.new ≡ statement.old) ] }
 {

@@ -24,10 +24,10 @@ fn complete(node: NodeTrust, n: u32) -> NodeTrust
 
 impl Draft {
     // What the nodes trust at the end of the text.
-    fn completed(self) -> [NodeTrust; 16]
-        ensures { result ≡ map (complete self.nodes) self.trust }
+    fn completed(self, nodes: u32) -> [NodeTrust; 16]
+        requires { nodes ≤ 16 }
+        ensures { result ≡ map (complete nodes) self.trust }
     {
-        let nodes = self.nodes;
         let mut trust = self.trust;
         // `map` of the array was tried: its contract leaves open what the closure has captured from the second call on.
         for node in trust.iter_mut() {
@@ -40,9 +40,7 @@ impl Draft {
     pub(crate) fn finish(&self) -> Result<Statement, Refusal>
         ensures { (before : List Record) → Kept self.now before → Finished before result }
     {
-        if self.nodes == 0 {
-            return Err(Refusal::Order);
-        }
-        Statement::new(self.nodes, self.completed())
+        let nodes = self.nodes.ok_or(Refusal::Order)?;
+        Statement::new(nodes, self.completed(nodes))
     }
 }

@@ -1,7 +1,7 @@
 ghost use Rattle.std.specs.Prelude.{◌≡◌, ℕ, suc, ◌<◌, ◌≤◌, ◌&&◌, List, [], ◌++◌, is_ok, OnOk, IfErr, Ok, nat_lt};
 ghost use Rattle.sets.specs.Sets.{node?, set?};
 ghost use Rattle.text.specs.Reading.{follows?, in_range?, in_order?, own};
-ghost use Rattle.text.specs.Drafts.{sets_at, held, placed, Noted, Kept, Taken};
+ghost use Rattle.text.specs.Drafts.{counted, sets_at, held, placed, Noted, Kept, Taken};
 
 use super::Draft;
 use crate::fields::read_record;
@@ -32,7 +32,7 @@ impl Draft {
         ensures { Kept result [] }
     {
         Draft {
-            nodes: 0,
+            nodes: None,
             newest: None,
             trust: [NodeTrust::nothing(); 16],
         }
@@ -40,11 +40,11 @@ impl Draft {
 
     // Its count, or its node and mask, are in range; before the N line no range is known.
     fn is_in_range(&self, next: Record) -> bool
-        ensures { result ≡ in_range? self.now.nodes next }
+        ensures { result ≡ in_range? (counted self.now) next }
     {
         match next {
-            Record::Count(count) => count >= 1 && count <= 16,
-            Record::Listed(e) => self.nodes == 0 || e.is_in_range(self.nodes),
+            Record::Count(count) => (1..=16).contains(&count),
+            Record::Listed(e) => self.nodes.is_none_or(|n| e.is_in_range(n)),
         }
     }
 
@@ -63,7 +63,7 @@ impl Draft {
 
     // Refused where it is out of range, or out of order.
     fn check(&self, next: Record) -> Result<(), Refusal>
-        ensures { result ≡ placed self.now.nodes self.now.newest next }
+        ensures { result ≡ placed (counted self.now) self.now.newest next }
     {
         if !self.is_in_range(next) {
             return Err(Refusal::Range);
@@ -91,13 +91,13 @@ impl Draft {
 
     // One record more, or refused where its node has 16 sets of its role.
     fn note(&mut self, next: Record) -> Result<(), Refusal>
-        requires { placed self.old.nodes self.old.newest next ≡ Ok tt }
+        requires { placed (counted self.old) self.old.newest next ≡ Ok tt }
         ensures room { is_ok result ≡ nat_lt (held self.old next) 16 }
         ensures noted { OnOk result (Noted self.old next self.new) }
         ensures full { IfErr result (λ x. (x ≡ Refusal.TooMany) × (self.new ≡ self.old)) }
     {
         match next {
-            Record::Count(count) => self.nodes = count,
+            Record::Count(count) => self.nodes = Some(count),
             Record::Listed(e) => self.add(e)?,
         }
         self.newest = Some(next);

@@ -18,8 +18,9 @@ one_more f (x ∷ xs) (suc i) d l = ap (λ ys. f x ∷ ys) (one_more f xs i d (o
 pub loop-node-preserved : goal.loop-node-preserved
 loop-node-preserved c =
     let d = c.args.self in
+    let n = c.args.nodes in
     let i = c.loop-node.node-index in
     let x = c.node-item.result in
     ap₂ (λ ys v. slice_set ys i v) c.loop-node.invariant
-    (c.complete.ensures ∙ ap (λ ys. complete d.nodes (get_or ys i x)) c.loop-node.invariant ∙ ap (complete d.nodes) (item (complete d.nodes) d.trust i x))
-    ∙ one_more (complete d.nodes) d.trust i x (omega (arith, d.places)) ∙ ap (λ k. map (complete d.nodes) (take k d.trust) ++ drop k d.trust) (sym (add-one i))
+    (c.complete.ensures ∙ ap (λ ys. complete n (get_or ys i x)) c.loop-node.invariant ∙ ap (complete n) (item (complete n) d.trust i x))
+    ∙ one_more (complete n) d.trust i x (omega (arith, d.places)) ∙ ap (λ k. map (complete n) (take k d.trust) ++ drop k d.trust) (sym (add-one i))

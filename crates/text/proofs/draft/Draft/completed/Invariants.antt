@@ -4,4 +4,4 @@ use Rattle.text.proofs.draft.Draft.completed.Given as goal
 
 abbrev pub invariant-loop-node : goal.invariant-loop-node
 invariant-loop-node l =
-    l.node-items ≡ map (complete l.fn.self.nodes) (take l.node-index l.fn.self.trust) ++ drop l.node-index l.fn.self.trust
+    l.node-items ≡ map (complete l.nodes) (take l.node-index l.fn.self.trust) ++ drop l.node-index l.fn.self.trust
