@@ -13,10 +13,8 @@ impl fmt::Display for Mask {
     ghost output = { λ m. Some (mask_bytes m.0.0) };
 
     fn fmt<W: fmt::Write>(&self, f: &mut fmt::Formatter<W>) -> fmt::Result {
-        // Split into two bytes by hand: a lemma of the library says which digits `{:02x}` writes of a byte; none says it of `{:04x}`.
-        let high = self.0.0 / 256;
-        let low = self.0.0 % 256;
-        write!(f, "{high:02x}{low:02x}")
+        let mask = self.0.0;
+        write!(f, "{mask:04x}")
     }
 }
 
