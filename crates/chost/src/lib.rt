@@ -5,10 +5,11 @@ ghost use Rattle.trust.specs.Refusals.{refusal_number};
 ghost use Rattle.chost.specs.Packed.{packed_masks, packed_refusal, packed, Packs};
 
 use sets::NodeSet;
-use text::reading::statement_of;
+use text::reading::read_statement;
 use trust::refusal::Refusal;
 use trust::rule::TrustRule;
 use trust::sorting::{Sorted, sort};
+use trust::statement::Statement;
 
 // Wise in bits 0 to 15, guild in 16 to 31.
 fn pack_masks(sorted: Sorted) -> u64
@@ -25,6 +26,8 @@ fn pack_refusal(refusal: Refusal) -> u64
 }
 
 // The answer for a rule: 8 comes before 9.
+// Not inlined: within the reader its loops came to lie across a line of the cache, and a full statement took half as long again.
+#[inline(never)]
 fn pack<R: TrustRule>(rule: &R, faulty: NodeSet) -> u64
     ensures { result ≡ packed (R.meaning rule.now) faulty.0 }
 {
@@ -44,8 +47,9 @@ fn pack<R: TrustRule>(rule: &R, faulty: NodeSet) -> u64
 pub extern "C" fn zurbeshik_guild(text: &[u8], faulty: u16) -> u64
     ensures { Packs text.now faulty result }
 {
-    match statement_of(text) {
-        Ok(statement) => pack(&statement, NodeSet(faulty)),
+    let mut statement = Statement::fresh();
+    match read_statement(text, &mut statement) {
+        Ok(()) => pack(&statement, NodeSet(faulty)),
         Err(fault) => pack_refusal(fault.refusal),
     }
 }

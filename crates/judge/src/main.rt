@@ -5,7 +5,7 @@ use reports::reporting::report_on_input;
 
 // Reads a statement text from standard input and prints its judgement, or the line of its refusal.
 fn main(rt: HostRuntime) -> anyhow::Result<()> {
-    let out = report_on_input::<Judgements>(&rt)?;
+    let out = report_on_input::<Judgements>(&rt, &mut rt.stdin())?;
     rt.print(out.as_str())?;
     Ok(())
 }

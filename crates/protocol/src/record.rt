@@ -1,6 +1,6 @@
 ghost use Rattle.std.specs.Prelude.{◌≡◌, Some};
 ghost use Rattle.protocol.specs.Fresh.{fresh_record};
-ghost use Rattle.protocol.specs.Hearing.{recorded_with, once, now_set, told, hear};
+ghost use Rattle.protocol.specs.Hearing.{is, recorded_with, once, now_set, told, hear};
 ghost use Rattle.protocol.specs.Words.{heard_word};
 
 use crate::message::{Kind, Message, Place};
@@ -46,13 +46,20 @@ impl fmt::Display for Heard {
     }
 }
 
+// The place stands in the entry. `entry == Some(place)` in the loop below was tried: a node's step took twice the time.
+fn is_place(entry: Option<Place>, place: Place) -> bool
+    ensures { result ≡ is place entry }
+{
+    entry.is_some_and(|other| other == place)
+}
+
 // The nodes recorded with a value. A fold of the entries that `filter` lets through was tried: what it returns was not proved.
 fn recorded_with(entries: &[Option<Place>; 16], place: Place) -> NodeSet
     ensures { result.0 ≡ recorded_with entries.now place }
 {
     let mut nodes = NodeSet(0);
     for (k, entry) in entries.iter().enumerate() {
-        if *entry == Some(place) {
+        if is_place(*entry, place) {
             nodes = nodes.with(Node(k as u32 + 1));
         }
     }

@@ -3,7 +3,7 @@ ghost use Rattle.sets.specs.Sets.{set?};
 ghost use Rattle.trust.specs.Trust.{sound};
 ghost use Rattle.reports.specs.Guilds.{row_of, table_of, SaysTable, Reports};
 
-use crate::reporting::{Report, refused_line, report_on};
+use crate::reporting::{OfStatement, Report, by_statement, refused_line};
 use crate::written::Row;
 use sets::{Node, NodeSet};
 use std::alloc::{AllocError, Global};
@@ -41,7 +41,7 @@ fn table<R: TrustRule>(heap: Global, rule: &R) -> Result<String, AllocError>
 // The report of program `guilds`: the table of a statement.
 pub struct Guilds;
 
-impl Report for Guilds {
+impl OfStatement for Guilds {
     ghost says = { SaysTable };
 
     fn of_statement(heap: Global, statement: &Statement) -> Result<String, AllocError> {
@@ -49,9 +49,15 @@ impl Report for Guilds {
     }
 }
 
+impl Report for Guilds {
+    fn of_text(heap: Global, text: &[u8]) -> Result<String, AllocError> {
+        report(heap, text)
+    }
+}
+
 // What program `guilds` prints for a statement text. This and `report_judgement` stay beside `report_on` for their callers outside: each promise is known by its name.
 pub fn report(heap: Global, text: &[u8]) -> Result<String, AllocError>
     ensures { IfOk result (λ out. Reports text.now (string_bytes out)) }
 {
-    report_on::<Guilds>(heap, text)
+    by_statement::<Guilds>(heap, text)
 }

@@ -3,7 +3,7 @@ ghost use Rattle.trust.specs.Judging.{Judged};
 ghost use Rattle.trust.specs.Statements.{meant};
 ghost use Rattle.reports.specs.Judgements.{verdict_words, pair_bytes, yes_bytes, judgement_bytes, SaysJudgement, Judges};
 
-use crate::reporting::{Report, report_on};
+use crate::reporting::{OfStatement, Report, by_statement};
 use sets::Node;
 use std::alloc::{AllocError, Global};
 use std::fmt;
@@ -69,7 +69,7 @@ fn judgement_text(heap: Global, statement: &Statement) -> Result<String, AllocEr
 // The report of program `judge`: the judgement of a statement.
 pub struct Judgements;
 
-impl Report for Judgements {
+impl OfStatement for Judgements {
     ghost says = { SaysJudgement };
 
     fn of_statement(heap: Global, statement: &Statement) -> Result<String, AllocError> {
@@ -77,9 +77,15 @@ impl Report for Judgements {
     }
 }
 
+impl Report for Judgements {
+    fn of_text(heap: Global, text: &[u8]) -> Result<String, AllocError> {
+        report_judgement(heap, text)
+    }
+}
+
 // What program `judge` prints for a statement text.
 pub fn report_judgement(heap: Global, text: &[u8]) -> Result<String, AllocError>
     ensures { IfOk result (λ out. Judges text.now (string_bytes out)) }
 {
-    report_on::<Judgements>(heap, text)
+    by_statement::<Judgements>(heap, text)
 }

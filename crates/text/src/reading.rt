@@ -15,9 +15,9 @@ pub struct Fault<'t> {
     pub at: usize,
 }
 
-// The statement that a text gives, or the fault of its first bad line.
-pub fn statement_of(text: &[u8]) -> Result<Statement, Fault<'_>>
-    ensures { elim result [ Ok s ↦ Accepts text.now s | Err f ↦ Refuses text.now f.refusal f.line f.at f.part.now ] }
+// Reads a text into a statement that the caller keeps, in place. A refused text leaves the statement as it was.
+pub fn read_statement<'t>(text: &'t [u8], statement: &mut Statement) -> Result<(), Fault<'t>>
+    ensures { elim result [ Ok _ ↦ Accepts text.now statement.new | Err f ↦ Refuses text.now f.refusal f.line f.at f.part.now × (statement.new ≡ statement.old) ] }
 {
     let mut draft = Draft::empty();
     let mut reader = Reader::new(text);
@@ -29,19 +29,19 @@ pub fn statement_of(text: &[u8]) -> Result<Statement, Fault<'_>>
             at: line.at,
         })?;
     }
-    let statement = draft.finish().map_err(|refusal| Fault {
+    draft.finish(statement).map_err(|refusal| Fault {
         refusal,
         line: reader.line + 1,
         part: &text[text.len()..],
         at: text.len(),
-    })?;
-    Ok(statement)
+    })
 }
 
-// Reads a text into a statement that the caller keeps, in place; beside `statement_of`, since a refused text leaves the statement as it was.
-pub fn read_statement<'t>(text: &'t [u8], statement: &mut Statement) -> Result<(), Fault<'t>>
-    ensures { elim result [ Ok _ ↦ Accepts text.now statement.new | Err f ↦ Refuses text.now f.refusal f.line f.at f.part.now × (statement.new ≡ statement.old) ] }
+// The statement that a text gives, or the fault of its first bad line. Made in place: a Result with a statement costs a short text as much as its reading.
+pub fn statement_of(text: &[u8]) -> Result<Statement, Fault<'_>>
+    ensures { elim result [ Ok s ↦ Accepts text.now s | Err f ↦ Refuses text.now f.refusal f.line f.at f.part.now ] }
 {
-    *statement = statement_of(text)?;
-    Ok(())
+    let mut statement = Statement::fresh();
+    read_statement(text, &mut statement)?;
+    Ok(statement)
 }

@@ -59,11 +59,16 @@ impl<P: Print + AllocGlobal> Run<'_, P> {
         Ok(())
     }
 
+    // Not by `play_lines`: the fields of a line are of no account here, and a line may be long.
     fn play_without_rule(&mut self, lines: &[Line<'_>]) -> anyhow::Result<()> {
-        self.play_lines(lines, |verb, _| match verb {
-            Verb::Ask(_) | Verb::Row(_) => Some(Said::Missing),
-            Verb::Case | Verb::Make(_) | Verb::Roll => None,
-        })
+        for line in lines {
+            match line.verb {
+                Some(Verb::Roll) => {}
+                Some(Verb::Ask(_) | Verb::Row(_)) => self.note(line, Said::Missing)?,
+                Some(Verb::Case | Verb::Make(_)) | None => self.note(line, Said::Unreadable)?,
+            }
+        }
+        Ok(())
     }
 
     fn play_without_row<R: Judging>(&mut self, rule: &R, lines: &[Line<'_>]) -> anyhow::Result<()> {

@@ -1,14 +1,14 @@
 -- A statement's lists fit. Assumes nothing.
-use Rattle.std.specs.Prelude.{◌≡◌, ℕ, suc, ◌<◌, Bool, true, List, length, take, nat_lt, slice_index_or}
+use Rattle.std.specs.Prelude.{◌≡◌, ℕ, suc, ◌<◌, ◌≤◌, ◌&&◌, Bool, true, List, length, take, nat_lt, slice_index_or}
 use Rattle.std.specs.List.{list_all}
 use Rattle.std.proofs.Common.{sym, ap, ◌∙◌, ⊎_elim, arith, length-take}
 use Rattle.std.proofs.lemmas.List.{get_or-take}
 use Rattle.std.proofs.lemmas.List.Folds.{list_all_at}
-use Rattle.std.proofs.lemmas.Bool.{cases_Bool, ltb-true, and_parts, both_ways}
+use Rattle.std.proofs.lemmas.Bool.{cases_Bool, ltb-true, leb-true, and_parts, both_ways}
 use Rattle.sets.specs.Lists.{of_nodes?}
 use Rattle.trust.specs.declared.node_trust.NodeTrust.{NodeTrust}
 use Rattle.trust.specs.declared.statement.Statement.{Statement}
-use Rattle.trust.specs.NodeTrusts.{nothing, fits?}
+use Rattle.trust.specs.NodeTrusts.{nothing, fits?, few?}
 use Rattle.trust.specs.Statements.{fail_sets, quorum_sets}
 
 -- each of a list passes
@@ -31,3 +31,14 @@ module _ (x : Statement) (k : ℕ) (l : k < x.nodes) where
 
   pub some_fail : 0 < length (fail_sets x (suc k))
   some_fail = ltb-true 0 _ (stated (λ t. nat_lt 0 (length t.fails)) x.each_fails)
+
+  few_lists : (length (fail_sets x (suc k)) ≤ 16) × (length (quorum_sets x (suc k)) ≤ 16)
+  few_lists =
+      let few = and_parts _ _ (and_parts _ _ (stated (λ t. fits? x.nodes t && few? t) x.bounded)).1 in
+      (leb-true _ 16 few.0, leb-true _ 16 few.1)
+
+  pub few_fails : length (fail_sets x (suc k)) ≤ 16
+  few_fails = few_lists.0
+
+  pub few_quorums : length (quorum_sets x (suc k)) ≤ 16
+  few_quorums = few_lists.1

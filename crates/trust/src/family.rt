@@ -48,6 +48,7 @@ impl Family {
         ensures room { is_ok result ≡ nat_lt (length self.old) 16 }
         ensures added { OnOk result (self.new ≡ self.old ++ set.0 ∷ []) }
         ensures full { IfErr result (λ e. (e ≡ Refusal.TooMany) × (self.new ≡ self.old)) }
+        ensures few { length self.new ≤ 16 }
     {
         if self.count >= 16 {
             return Err(Refusal::TooMany);
@@ -59,7 +60,8 @@ impl Family {
 
     // How many sets there are.
     pub fn len(&self) -> usize
-        ensures { result ≡ length self.now }
+        ensures count { result ≡ length self.now }
+        ensures few { result ≤ 16 }
     {
         self.sets().len()
     }
@@ -81,7 +83,8 @@ impl Family {
 
     // Of each set, the nodes 1 to n outside it.
     pub fn rests(&self, n: u32) -> Family
-        ensures { result ≡ map (rest (min n 16)) self.now }
+        ensures list { result ≡ map (rest (min n 16)) self.now }
+        ensures few { length result ≤ 16 }
     {
         let mut rests = Family::empty();
         for mask in self.sets() {
@@ -113,7 +116,8 @@ impl Family {
 
     // No set has a bit above n.
     pub(crate) fn fits(&self, n: u32) -> bool
-        ensures { result ≡ of_nodes? n self.now }
+        ensures says { result ≡ of_nodes? n self.now }
+        ensures few { length self.now ≤ 16 }
     {
         self.sets().iter().all(|mask| NodeSet(*mask).fits(n))
     }

@@ -1,4 +1,4 @@
-ghost use Rattle.std.specs.Prelude.{◌≡◌, ◌≤◌};
+ghost use Rattle.std.specs.Prelude.{◌≡◌, ◌≤◌, ◌&&◌};
 ghost use Rattle.trust.specs.ByLists.{misses?, both_part?, b3_row?, b3_pair?, keeps_with?, pair?};
 
 use crate::family::Family;
@@ -13,7 +13,7 @@ pub struct NodeTrust {
 }
 
 impl NodeTrust {
-    ghost use Rattle.trust.specs.NodeTrusts.{nothing, fits?};
+    ghost use Rattle.trust.specs.NodeTrusts.{nothing, fits?, few?};
 
     // No fail-prone set and no quorum.
     pub fn nothing() -> NodeTrust
@@ -27,7 +27,8 @@ impl NodeTrust {
 
     // No set has a bit above n.
     pub(crate) fn fits(&self, n: u32) -> bool
-        ensures { result ≡ fits? n self.now }
+        ensures says { result ≡ fits? n self.now }
+        ensures few { result ≡ (fits? n self.now && few? self.now) }
     {
         self.fails.fits(n) && self.quorums.fits(n)
     }

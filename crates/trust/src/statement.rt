@@ -1,5 +1,5 @@
 ghost use Rattle.std.specs.Prelude.{◌≡◌, ◌≤◌, true, length};
-ghost use Rattle.trust.specs.Fitting.{in_range?, some_each?};
+ghost use Rattle.trust.specs.Fitting.{in_range?, bounded?, some_each?};
 
 use crate::node_trust::NodeTrust;
 
@@ -17,5 +17,6 @@ pub struct Statement {
     ghost some: { 1 ≤ nodes },
     ghost few: { nodes ≤ 16 },
     ghost in_range: { in_range? nodes trust ≡ true },
+    ghost bounded: { bounded? nodes trust ≡ true },
     ghost each_fails: { some_each? nodes trust ≡ true },
 }

@@ -10,6 +10,8 @@ use trust::rule::TrustRule;
 
 impl<'r, R: TrustRule> Panel<'r, R> {
     // Opens a panel over a rule, which is lent to it, and a roll of which no place is used yet.
+    // Inlined, so that a panel, which is large, is made where the caller keeps it.
+    #[inline(always)]
     pub fn open<V: ValueKind>(
         rule: &'r R,
         slots: u32,

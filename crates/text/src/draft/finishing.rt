@@ -1,4 +1,4 @@
-ghost use Rattle.std.specs.Prelude.{◌≡◌, ◌≤◌, List, map};
+ghost use Rattle.std.specs.Prelude.{◌≡◌, ◌≤◌, List, map, Ok, Err, OnErr};
 ghost use Rattle.text.specs.Drafts.{complete, Kept};
 ghost use Rattle.text.specs.Outcomes.{Finished};
 
@@ -9,16 +9,12 @@ use trust::refusal::Refusal;
 use trust::statement::Statement;
 
 // A node without Q lines has the rests of its fail-prone sets as its quorums.
-fn complete(node: NodeTrust, n: u32) -> NodeTrust
+fn complete(node: &mut NodeTrust, n: u32)
     requires { n ≤ 16 }
-    ensures { result ≡ complete n node }
+    ensures { node.new ≡ complete n node.old }
 {
-    if !node.quorums.is_empty() {
-        return node;
-    }
-    NodeTrust {
-        quorums: node.fails.rests(n),
-        ..node
+    if node.quorums.is_empty() {
+        node.quorums = node.fails.rests(n);
     }
 }
 
@@ -31,16 +27,17 @@ impl Draft {
         let mut trust = self.trust;
         // `map` of the array was tried: its contract leaves open what the closure has captured from the second call on.
         for node in trust.iter_mut() {
-            *node = complete(*node, nodes);
+            complete(node, nodes);
         }
         trust
     }
 
-    // The statement that the records make, or the refusal at the end of the text.
-    pub(crate) fn finish(&self) -> Result<Statement, Refusal>
-        ensures { (before : List Record) → Kept self.now before → Finished before result }
+    // Makes the statement the one that the records make, or says the refusal at the end of the text and leaves it as it is.
+    pub(crate) fn finish(self, statement: &mut Statement) -> Result<(), Refusal>
+        ensures finished { (before : List Record) → Kept self before → elim result [ Ok _ ↦ Finished before (Ok statement.new) | Err e ↦ Finished before (Err e) ] }
+        ensures same { OnErr result (statement.new ≡ statement.old) }
     {
         let nodes = self.nodes.ok_or(Refusal::Order)?;
-        Statement::new(nodes, self.completed(nodes))
+        statement.assign(nodes, self.completed(nodes))
     }
 }

@@ -3,7 +3,7 @@ use Rattle.text.specs.declared.record.Record.{Record}
 use Rattle.text.specs.Lines.{lines}
 use Rattle.text.specs.Outcomes.{outcome, outcome_of}
 use Rattle.text.specs.Drafts.{Kept}
-use Rattle.text.proofs.reading.statement_of.Given as goal
+use Rattle.text.proofs.reading.read_statement.Given as goal
 
 abbrev pub invariant-loop-line : goal.invariant-loop-line
 invariant-loop-line l =
