@@ -3,7 +3,7 @@ ghost use Rattle.sets.specs.Sets.{set?};
 ghost use Rattle.trust.specs.Trust.{sound};
 ghost use Rattle.reports.specs.Guilds.{row_of, table_of, SaysTable, Reports};
 
-use crate::reporting::{OfStatement, Report, by_statement, refused_line};
+use crate::reporting::{Report, TextReport, refused_line, report_on};
 use crate::written::Row;
 use sets::{Node, NodeSet};
 use std::alloc::{AllocError, Global};
@@ -41,7 +41,7 @@ fn table<R: TrustRule>(heap: Global, rule: &R) -> Result<String, AllocError>
 // The report of program `guilds`: the table of a statement.
 pub struct Guilds;
 
-impl OfStatement for Guilds {
+impl Report for Guilds {
     ghost says = { SaysTable };
 
     fn of_statement(heap: Global, statement: &Statement) -> Result<String, AllocError> {
@@ -49,7 +49,7 @@ impl OfStatement for Guilds {
     }
 }
 
-impl Report for Guilds {
+impl TextReport for Guilds {
     fn of_text(heap: Global, text: &[u8]) -> Result<String, AllocError> {
         report(heap, text)
     }
@@ -59,5 +59,5 @@ impl Report for Guilds {
 pub fn report(heap: Global, text: &[u8]) -> Result<String, AllocError>
     ensures { IfOk result (λ out. Reports text.now (string_bytes out)) }
 {
-    by_statement::<Guilds>(heap, text)
+    report_on::<Guilds>(heap, text)
 }

@@ -3,7 +3,7 @@ ghost use Rattle.trust.specs.Judging.{Judged};
 ghost use Rattle.trust.specs.Statements.{meant};
 ghost use Rattle.reports.specs.Judgements.{verdict_words, pair_bytes, yes_bytes, judgement_bytes, SaysJudgement, Judges};
 
-use crate::reporting::{OfStatement, Report, by_statement};
+use crate::reporting::{Report, TextReport, report_on};
 use sets::Node;
 use std::alloc::{AllocError, Global};
 use std::fmt;
@@ -69,7 +69,7 @@ fn judgement_text(heap: Global, statement: &Statement) -> Result<String, AllocEr
 // The report of program `judge`: the judgement of a statement.
 pub struct Judgements;
 
-impl OfStatement for Judgements {
+impl Report for Judgements {
     ghost says = { SaysJudgement };
 
     fn of_statement(heap: Global, statement: &Statement) -> Result<String, AllocError> {
@@ -77,7 +77,7 @@ impl OfStatement for Judgements {
     }
 }
 
-impl Report for Judgements {
+impl TextReport for Judgements {
     fn of_text(heap: Global, text: &[u8]) -> Result<String, AllocError> {
         report_judgement(heap, text)
     }
@@ -87,5 +87,5 @@ impl Report for Judgements {
 pub fn report_judgement(heap: Global, text: &[u8]) -> Result<String, AllocError>
     ensures { IfOk result (λ out. Judges text.now (string_bytes out)) }
 {
-    by_statement::<Judgements>(heap, text)
+    report_on::<Judgements>(heap, text)
 }

@@ -10,8 +10,8 @@ use text::reading::statement_of;
 use trust::refusal::Refusal;
 use trust::statement::Statement;
 
-// What may be written of a statement, and what a report writes of it.
-pub trait OfStatement {
+// What a report writes of a statement.
+pub trait Report {
     ghost says: { Statement → List ℕ → Type 0 };
 
     fn of_statement(heap: Global, statement: &Statement) -> Result<String, AllocError>
@@ -19,11 +19,11 @@ pub trait OfStatement {
 }
 
 // What a program writes of a text. A report whose promise has a function of its own name gives that here, so that the program runs it.
-pub trait Report: OfStatement {
+pub trait TextReport: Report {
     fn of_text(heap: Global, text: &[u8]) -> Result<String, AllocError>
         ensures { IfOk result (λ out. ReportsOn Self.says text.now (string_bytes out)) }
     {
-        by_statement::<Self>(heap, text)
+        report_on::<Self>(heap, text)
     }
 }
 
@@ -39,24 +39,33 @@ pub(crate) fn refused_line(
 }
 
 // The report on the statement that a text gives, or the line of the text's refusal.
-pub(crate) fn by_statement<S: OfStatement>(heap: Global, text: &[u8]) -> Result<String, AllocError>
-    ensures { IfOk result (λ out. ReportsOn S.says text.now (string_bytes out)) }
+pub fn report_on<R: Report>(heap: Global, text: &[u8]) -> Result<String, AllocError>
+    ensures { IfOk result (λ out. ReportsOn R.says text.now (string_bytes out)) }
 {
     match statement_of(text) {
-        Ok(statement) => S::of_statement(heap, &statement),
+        Ok(statement) => R::of_statement(heap, &statement),
         Err(fault) => refused_line(heap, fault.refusal, fault.line),
     }
 }
 
-// The report on a text.
-pub fn report_on<R: Report>(heap: Global, text: &[u8]) -> Result<String, AllocError>
+// What a program writes of a text.
+pub fn report_on_text<R: TextReport>(heap: Global, text: &[u8]) -> Result<String, AllocError>
     ensures { IfOk result (λ out. ReportsOn R.says text.now (string_bytes out)) }
 {
     R::of_text(heap, text)
 }
 
-// Reads a text to its end: the report on it. No clause can say which text is read.
-pub fn report_on_input<R: Report>(
+// Reads a text from standard input: the report on it. No clause can say which text is read.
+pub fn report_on_input<R: Report>(rt: &(impl Input + AllocGlobal)) -> anyhow::Result<String>
+    ensures { IfOk result (λ out. (text : List ℕ) × ReportsOn R.says text (string_bytes out)) }
+{
+    let mut text = Vec::new(rt.alloc());
+    rt.reader().read_to_end(&mut text)?;
+    Ok(report_on::<R>(rt.alloc(), text.as_slice())?)
+}
+
+// Reads a text to its end: what a program writes of it. No clause can say which text is read.
+pub fn report_on_reader<R: TextReport>(
     rt: &impl AllocGlobal,
     input: &mut impl Read,
 ) -> anyhow::Result<String>
@@ -64,5 +73,5 @@ pub fn report_on_input<R: Report>(
 {
     let mut text = Vec::new(rt.alloc());
     input.read_to_end(&mut text)?;
-    Ok(report_on::<R>(rt.alloc(), text.as_slice())?)
+    Ok(report_on_text::<R>(rt.alloc(), text.as_slice())?)
 }
