@@ -1,8 +1,11 @@
 ghost use Rattle.std.specs.Prelude.{◌≡◌, List, IfOk, string_bytes, decimal};
 
 use crate::guilds::Guilds;
-use crate::reporting::{Report, report_on, report_on_input, report_on_reader};
+use crate::reporting::{
+    Report, TextReport, report_on, report_on_input, report_on_reader, report_on_text,
+};
 use std::alloc::{AllocError, Allocator, Global};
+use std::fmt::Write;
 use std::io;
 use std::io::{BufRead, ErrorKind, Input, Lines, Read};
 use std::test::Fail;
@@ -15,59 +18,64 @@ const TEXT: &[u8] =
 const TABLE: &str =
     "faulty wise naive guild\n0000 001f 0000 001f\n0001 0008 0016 0000\n0002 0010 000d 0000\n0004 0000 001b 0000\n0008 0017 0000 0017\n0010 000f 0000 000f\n";
 
-const REFUSED: &str = "refused 3 1\n";
+// Eighty lines that are taken, and then one that is not.
+fn long_text(heap: Global) -> Result<String, AllocError> {
+    let mut text = String::from_str(heap, "N\t5\n")?;
+    for node in 1..=5u32 {
+        for mask in 1..=16u32 {
+            writeln!(text, "F\t{node}\t{mask:04x}")?;
+        }
+    }
+    writeln!(text, "Z")?;
+    Ok(text)
+}
 
-// A host whose standard input is a text.
+// A reader of a text, whose reading fails at the end of it where `fails` says so.
 #[derive(Clone, Copy)]
-struct Given<'t>(&'t [u8]);
+struct Given<'t> {
+    text: &'t [u8],
+    fails: bool,
+}
 
-impl<'t> Input for Given<'t> {
-    type Reader = &'t [u8];
+impl Read for Given<'_> {
+    fn read(&mut self, buf: &mut [u8]) -> io::Result<usize> {
+        if self.fails && self.text.is_empty() {
+            return Err(io::Error::from(ErrorKind::Other));
+        }
+        self.text.read(buf)
+    }
+}
+
+impl BufRead for Given<'_> {
+    fn fill_buf(&mut self) -> io::Result<&[u8]> {
+        if self.fails && self.text.is_empty() {
+            return Err(io::Error::from(ErrorKind::Other));
+        }
+        Ok(self.text)
+    }
+
+    fn consume(&mut self, amount: usize) {
+        self.text.consume(amount);
+    }
+}
+
+// A host whose standard input it is.
+#[derive(Clone, Copy)]
+struct Host<'t>(Given<'t>);
+
+impl<'t> Input for Host<'t> {
+    type Reader = Given<'t>;
 
     fn read_line<A: Allocator + Clone>(&self, buf: &mut String<A>) -> io::Result<usize> {
         self.reader().read_line(buf)
     }
 
-    fn lines<A: Allocator>(&self, alloc: A) -> Lines<&'t [u8], A> {
-        self.0.lines(alloc)
+    fn lines<A: Allocator>(&self, alloc: A) -> Lines<Given<'t>, A> {
+        self.reader().lines(alloc)
     }
 
-    fn reader(&self) -> &'t [u8] {
+    fn reader(&self) -> Given<'t> {
         self.0
-    }
-}
-
-// A host whose standard input fails at each read, and the reader of it.
-#[derive(Clone, Copy)]
-struct Broken;
-
-impl Read for Broken {
-    fn read(&mut self, _buf: &mut [u8]) -> io::Result<usize> {
-        Err(io::Error::from(ErrorKind::Other))
-    }
-}
-
-impl BufRead for Broken {
-    fn fill_buf(&mut self) -> io::Result<&[u8]> {
-        Err(io::Error::from(ErrorKind::Other))
-    }
-
-    fn consume(&mut self, _amount: usize) {}
-}
-
-impl Input for Broken {
-    type Reader = Broken;
-
-    fn read_line<A: Allocator + Clone>(&self, buf: &mut String<A>) -> io::Result<usize> {
-        BufRead::read_line(&mut self.reader(), buf)
-    }
-
-    fn lines<A: Allocator>(&self, alloc: A) -> Lines<Broken, A> {
-        BufRead::lines(self.reader(), alloc)
-    }
-
-    fn reader(&self) -> Broken {
-        Broken
     }
 }
 
@@ -83,21 +91,52 @@ impl Report for Nodes {
     }
 }
 
+// The same as a program may write it.
+struct Written;
+
+impl Report for Written {
+    ghost says = { λ s out. out ≡ decimal s.nodes };
+
+    fn of_statement(heap: Global, statement: &Statement) -> Result<String, AllocError> {
+        Nodes::of_statement(heap, statement)
+    }
+}
+
+impl TextReport for Written {}
+
 #[test]
-fn a_report_is_all_that_reporting_asks_for(rt: HostRuntime) -> Result<(), Fail> {
-    for (text, count, table) in [(TEXT, "5", TABLE), (b"".as_slice(), REFUSED, REFUSED)] {
-        let host = (Given(text), rt.alloc());
+fn a_text_is_reported_on(rt: HostRuntime) -> Result<(), Fail> {
+    let long = long_text(rt.alloc())?;
+    let cases = [
+        (TEXT, "5", TABLE),
+        (b"".as_slice(), "refused 3 1\n", "refused 3 1\n"),
+        (long.as_bytes(), "refused 1 82\n", "refused 1 82\n"),
+    ];
+    for (text, count, table) in cases {
+        let mut input = Given { text, fails: false };
+        let host = (Host(input), rt.alloc());
         assert_eq!(rt; report_on::<Nodes>(rt.alloc(), text)?.as_str(), count);
+        assert_eq!(rt;
+            report_on_text::<Written>(rt.alloc(), text)?.as_str(),
+            count
+        );
         assert_eq!(rt; report_on_input::<Nodes>(&host)?.as_str(), count);
-        assert_eq!(rt; report_on::<Guilds>(rt.alloc(), text)?.as_str(), table);
         assert_eq!(rt; report_on_input::<Guilds>(&host)?.as_str(), table);
+        assert_eq!(rt;
+            report_on_reader::<Guilds>(&rt, &mut input)?.as_str(),
+            table
+        );
     }
     Ok(())
 }
 
-// What could not be read is not reported on as an empty text.
+// What could not be read to its end is not reported on.
 #[test]
 fn a_failed_read_is_no_report(rt: HostRuntime) {
-    assert!(rt; report_on_input::<Nodes>(&(Broken, rt.alloc())).is_err());
-    assert!(rt; report_on_reader::<Guilds>(&rt, &mut Broken).is_err());
+    for text in [TEXT, b"".as_slice()] {
+        let mut input = Given { text, fails: true };
+        let host = (Host(input), rt.alloc());
+        assert!(rt; report_on_input::<Nodes>(&host).is_err());
+        assert!(rt; report_on_reader::<Guilds>(&rt, &mut input).is_err());
+    }
 }
